@@ -1,0 +1,63 @@
+-- Within document 01's limits there are enough identifiers up to 14.
+-- Assumes nothing.
+use Prim.Native.Nat.{ℕ, zero, suc, _+_, _≤_, pred}
+use mathlib.Core.Bool.{Bool}
+use mathlib.Core.List.{List, [], _∷_, map, List·Memᴰ, List·Memᴰ·head, List·Memᴰ·tail, Memᴰ·of-map}
+use mathlib.Core.Path.{refl, subst}
+use native.Mathlib.Omega.{arith}
+use lib.Dec.{T, leb, leb→le, le→leb, ltb, ltb→lt}
+use lib.Ieee.Fits.{and-i, and-l, and-r}
+use lib.ListN.{length, getD, length-map}
+use Rattle.graphs.specs.Lists.{allOf}
+use Rattle.graphs.proofs.Lists.{and-elim, allOf-mem}
+use Rattle.classes.specs.Renaming.{rising}
+use Rattle.automata.specs.Automaton.{Transition, Automaton, arity}
+use Rattle.automata.specs.WellFormed.{wellFormed, inside, count, fitsTerm, fitsAssignment, fitsTransition}
+use Rattle.automata.proofs.Equivariance.{inside→}
+use Rattle.automata.proofs.Bisimulation.{wf-transition}
+use Rattle.moves.specs.Moves.{roomyFor, roomy, limited}
+
+all-intro : {A : Type 0} (p : A → Bool) (xs : List A) → ((x : A) → List·Memᴰ x xs → T (p x)) → T (allOf p xs)
+all-intro p [] h = tt
+all-intro p (x ∷ xs) h = and-i (p x) (allOf p xs) (h x (List·Memᴰ·head refl)) (all-intro p xs (λ y m. h y (List·Memᴰ·tail m)))
+
+getD-le : (n : ℕ) (xs : List ℕ) (i : ℕ) → T (allOf (λ x. leb x n) xs) → getD xs i 0 ≤ n
+getD-le n [] i t = omega arith
+getD-le n (x ∷ xs) zero t = leb→le x n (and-l (leb x n) (allOf (λ x. leb x n) xs) t)
+getD-le n (x ∷ xs) (suc i) t = getD-le n xs i (and-r (leb x n) (allOf (λ x. leb x n) xs) t)
+
+-- numbers that rise up to r
+rising-room : (r x : ℕ) (xs : List ℕ) → T (rising (x ∷ xs)) → ((y : ℕ) → List·Memᴰ y (x ∷ xs) → y ≤ r) → x + length xs ≤ r
+rising-room r x [] t h = omega (arith, h x (List·Memᴰ·head refl))
+rising-room r x (y ∷ ys) t h =
+    let (l, u) = and-elim (ltb x y) (rising (y ∷ ys)) t in
+    omega (arith, ltb→lt x y l, rising-room r y ys u (λ z m. h z (List·Memᴰ·tail m)))
+
+rising-length : (r : ℕ) (xs : List ℕ) → T (rising xs) → ((y : ℕ) → List·Memᴰ y xs → (1 ≤ y) × (y ≤ r)) → length xs ≤ r
+rising-length r [] t h = omega arith
+rising-length r (x ∷ xs) t h = omega (arith, h x (List·Memᴰ·head refl) .0, rising-room r x xs t (λ y m. h y m .1))
+
+module _ (a : Automaton) (wf : T (wellFormed a)) (lim : T (limited a)) where
+  assigns-le : (t : Transition) → List·Memᴰ t (a .transitions) → length (t .assigns) ≤ a .registers
+  assigns-le t m =
+      let each : T (allOf (λ t. rising (map (λ s. s .register) (t .assigns))) (a .transitions)) = search (and-l, and-r) in
+      let f : T (fitsTransition a t) = wf-transition a wf m in
+      let g : T (allOf (fitsAssignment (count a) (a .registers) (arity a t)) (t .assigns)) = search (and-l, and-r) in
+      omega (
+        arith,
+        length-map (t .assigns) (λ s. s .register),
+        rising-length (a .registers) (map (λ s. s .register) (t .assigns)) (allOf-mem (λ t. rising (map (λ s. s .register) (t .assigns))) (a .transitions) each m) (λ y o.
+            let (s, sm, e) = Memᴰ·of-map (λ s. s .register) (t .assigns) o in
+            let h = allOf-mem (fitsAssignment (count a) (a .registers) (arity a t)) (t .assigns) g sm in
+            subst (λ y. (1 ≤ y) × (y ≤ a .registers)) e (inside→ (a .registers) (s .register) (and-l (inside (a .registers) (s .register)) (fitsTerm (count a) (a .registers) (arity a t) (s .source)) h))),
+      )
+
+  pub limited-roomy : T (roomy 15 a)
+  limited-roomy =
+      let r : a .registers ≤ 5 = leb→le (a .registers) 5 (search (and-l, and-r)) in
+      let c : count a ≤ 2 = leb→le (count a) 2 (search (and-l, and-r)) in
+      let few : T (allOf (λ n. leb n 3) (a .arities)) = search (and-l, and-r) in
+      and-i (leb (count a + a .registers) 15) (allOf (roomyFor 15 a) (a .transitions)) (le→leb (count a + a .registers) 15 (omega arith)) (all-intro (roomyFor 15 a) (a .transitions) (λ t m.
+      and-i (leb (count a + a .registers + arity a t) 15) (leb (count a + a .registers + length (t .assigns)) 15)
+      (le→leb (count a + a .registers + arity a t) 15 (omega (arith, getD-le 3 (a .arities) (pred (t .action)) few)))
+      (le→leb (count a + a .registers + length (t .assigns)) 15 (omega (arith, assigns-le t m)))))
