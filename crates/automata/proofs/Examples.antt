@@ -22,7 +22,7 @@ use Rattle.classes.proofs.Matrices.{class-of-matrix}
 use Rattle.automata.specs.Automaton.{Automaton}
 use Rattle.automata.specs.Runs.{State, Move, Target, Shortest, Never, initial, isRun, final, hits}
 use Rattle.automata.specs.Questions.{Atom, HoldsAtStarts}
-use Rattle.automata.specs.WellFormed.{wellFormed, Proper, count}
+use Rattle.automata.specs.WellFormed.{wellFormed, Proper, constantCount}
 use Rattle.automata.specs.Configurations.{Configuration, configuration, conf, classes, stepConf, configurations}
 use Rattle.automata.specs.Answers.{nearestTo, Verdict, failing, Reply}
 use Rattle.automata.specs.Examples.{Claim, Means, check, examples, state, isNone, isSome, takes, eqConfigurations}
@@ -83,11 +83,11 @@ module _ (a : Automaton) (wf : T (wellFormed a)) where
   fails-somewhere f none reply t = absurd t
   fails-somewhere f (some k) (below, bad, _) t =
       let l : List ℕ = getD (classes a) k [] in
-      let (legal, wide) = lists-mem (a .registers) (count a) l (getD-mem (classes a) k [] below) in
+      let (legal, wide) = lists-mem (a .registers) (constantCount a) l (getD-mem (classes a) k [] below) in
       let v : List ℕ = contents (a .constants) l in
       let class : labels (a .constants) v ≡ l = contents-labels (a .constants) l (wf-constants a wf) legal in
       let (ok, no-hold) = bad v (contents-length (a .constants) l ∙ wide)
-      (ap (index (classes a)) class ∙ index-getD (classes a) k (lists-ascending (a .registers) (count a)) below) in
+      (ap (index (classes a)) class ∙ index-getD (classes a) k (lists-ascending (a .registers) (constantCount a)) below) in
       (v, ok, no-hold)
 
 pub sound : (c : Claim) → T (check c) → Means c

@@ -12,10 +12,10 @@ use Rattle.graphs.specs.Lists.{allOf}
 use Rattle.graphs.proofs.Lists.{and-elim, allOf-mem}
 use Rattle.classes.specs.Renaming.{rising}
 use Rattle.automata.specs.Automaton.{Transition, Automaton, arity}
-use Rattle.automata.specs.WellFormed.{wellFormed, inside, count, fitsTerm, fitsAssignment, fitsTransition}
+use Rattle.automata.specs.WellFormed.{wellFormed, limited, inside, constantCount, fitsTerm, fitsAssignment, fitsTransition}
 use Rattle.automata.proofs.Equivariance.{inside→}
 use Rattle.automata.proofs.Bisimulation.{wf-transition}
-use Rattle.moves.specs.Moves.{roomyFor, roomy, limited}
+use Rattle.moves.specs.Moves.{roomyFor, roomy}
 
 all-intro : {A : Type 0} (p : A → Bool) (xs : List A) → ((x : A) → List·Memᴰ x xs → T (p x)) → T (allOf p xs)
 all-intro p [] h = tt
@@ -40,24 +40,24 @@ rising-length r (x ∷ xs) t h = omega (arith, h x (List·Memᴰ·head refl) .0,
 module _ (a : Automaton) (wf : T (wellFormed a)) (lim : T (limited a)) where
   assigns-le : (t : Transition) → List·Memᴰ t (a .transitions) → length (t .assigns) ≤ a .registers
   assigns-le t m =
-      let each : T (allOf (λ t. rising (map (λ s. s .register) (t .assigns))) (a .transitions)) = search (and-l, and-r) in
       let f : T (fitsTransition a t) = wf-transition a wf m in
-      let g : T (allOf (fitsAssignment (count a) (a .registers) (arity a t)) (t .assigns)) = search (and-l, and-r) in
+      let up : T (rising (map (λ s. s .register) (t .assigns))) = search (and-l, and-r) in
+      let g : T (allOf (fitsAssignment (constantCount a) (a .registers) (arity a t)) (t .assigns)) = search (and-l, and-r) in
       omega (
         arith,
         length-map (t .assigns) (λ s. s .register),
-        rising-length (a .registers) (map (λ s. s .register) (t .assigns)) (allOf-mem (λ t. rising (map (λ s. s .register) (t .assigns))) (a .transitions) each m) (λ y o.
+        rising-length (a .registers) (map (λ s. s .register) (t .assigns)) up (λ y o.
             let (s, sm, e) = Memᴰ·of-map (λ s. s .register) (t .assigns) o in
-            let h = allOf-mem (fitsAssignment (count a) (a .registers) (arity a t)) (t .assigns) g sm in
-            subst (λ y. (1 ≤ y) × (y ≤ a .registers)) e (inside→ (a .registers) (s .register) (and-l (inside (a .registers) (s .register)) (fitsTerm (count a) (a .registers) (arity a t) (s .source)) h))),
+            let h = allOf-mem (fitsAssignment (constantCount a) (a .registers) (arity a t)) (t .assigns) g sm in
+            subst (λ y. (1 ≤ y) × (y ≤ a .registers)) e (inside→ (a .registers) (s .register) (and-l (inside (a .registers) (s .register)) (fitsTerm (constantCount a) (a .registers) (arity a t) (s .source)) h))),
       )
 
   pub limited-roomy : T (roomy 15 a)
   limited-roomy =
       let r : a .registers ≤ 5 = leb→le (a .registers) 5 (search (and-l, and-r)) in
-      let c : count a ≤ 2 = leb→le (count a) 2 (search (and-l, and-r)) in
+      let c : constantCount a ≤ 2 = leb→le (constantCount a) 2 (search (and-l, and-r)) in
       let few : T (allOf (λ n. leb n 3) (a .arities)) = search (and-l, and-r) in
-      and-i (leb (count a + a .registers) 15) (allOf (roomyFor 15 a) (a .transitions)) (le→leb (count a + a .registers) 15 (omega arith)) (all-intro (roomyFor 15 a) (a .transitions) (λ t m.
-      and-i (leb (count a + a .registers + arity a t) 15) (leb (count a + a .registers + length (t .assigns)) 15)
-      (le→leb (count a + a .registers + arity a t) 15 (omega (arith, getD-le 3 (a .arities) (pred (t .action)) few)))
-      (le→leb (count a + a .registers + length (t .assigns)) 15 (omega (arith, assigns-le t m)))))
+      and-i (leb (constantCount a + a .registers) 15) (allOf (roomyFor 15 a) (a .transitions)) (le→leb (constantCount a + a .registers) 15 (omega arith)) (all-intro (roomyFor 15 a) (a .transitions) (λ t m.
+      and-i (leb (constantCount a + a .registers + arity a t) 15) (leb (constantCount a + a .registers + length (t .assigns)) 15)
+      (le→leb (constantCount a + a .registers + arity a t) 15 (omega (arith, getD-le 3 (a .arities) (pred (t .action)) few)))
+      (le→leb (constantCount a + a .registers + length (t .assigns)) 15 (omega (arith, assigns-le t m)))))

@@ -18,7 +18,7 @@ use Rattle.classes.proofs.Legal.{notes-le, labels-append, labels-length, notes-
 use Rattle.automata.specs.Automaton.{Term, Assignment, Transition, Automaton, arity, value, meets}
 use Rattle.automata.specs.Automaton.Term.{register, parameter, constant}
 use Rattle.automata.specs.Runs.{makes}
-use Rattle.automata.specs.WellFormed.{inside, count, fitsTerm, fitsAssignment, fitsTransition}
+use Rattle.automata.specs.WellFormed.{inside, constantCount, fitsTerm, fitsAssignment, fitsTransition}
 use Rattle.automata.specs.Configurations.{marks, written, held}
 use Rattle.automata.proofs.Equivariance.{inside→, guard-agrees, written-renamed, held-renamed}
 use Rattle.automata.proofs.StepClasses.{makes-few, makes-wide, makes-guard, makes-held, makes-intro, fits-assigns, fits-guard}
@@ -54,11 +54,11 @@ module _ (a : Automaton) (t : Transition) (distinct : Distinct (a .constants)) (
         let u : List ℕ = written (a .constants) v ps (t .assigns) in
         let h : List ℕ = held k (t .assigns) in
         let n : length (notes (marks a) h) ≡ length (notes (a .constants) u) =
-        cc (notes-length (a .constants) u, notes-length (marks a) h, upFrom-length 1 (count a), passes-labels) in
+        cc (notes-length (a .constants) u, notes-length (marks a) h, upFrom-length 1 (constantCount a), passes-labels) in
         rw n at (labels-legal (notes (marks a) h) k)
 
   -- the new contents for parameters that pass
-  pub renewed-makes : (k : List ℕ) → Legal (count a) k → length k ≡ a .registers → (ps : List ℕ) → length ps ≡ arity a t → T (passes a t v k ps)
+  pub renewed-makes : (k : List ℕ) → Legal (constantCount a) k → length k ≡ a .registers → (ps : List ℕ) → length ps ≡ arity a t → T (passes a t v k ps)
       → T (makes a t v ps (renewed a t v k ps)) × (labels (a .constants) (renewed a t v k ps) ≡ k)
   renewed-makes k legal wide′ ps few pass =
       let cs : List ℕ = a .constants in
@@ -71,8 +71,8 @@ module _ (a : Automaton) (t : Transition) (distinct : Distinct (a .constants)) (
       let n : length h ≡ length u = length-map ss (λ s. item k (s .register)) ∙ sym (length-map ss (λ s. value cs v ps (s .source))) in
       let (σ, c, rh, rk) = from-marks cs u w h k distinct n (cc (labels-append cs u w, labels-append (marks a) h k, passes-labels k ps pass)) in
       let wide-w : length w ≡ a .registers = identifiers-length (notes cs u) (labels (notes (marks a) h) k) ∙ labels-length (notes (marks a) h) k ∙ wide′ in
-      let same : held w ss ≡ u = cc (held-renamed σ (count a) (arity a t) k ss (fits-assigns a t distinct fits v wide (length k) (arity a t) wide′ refl)) in
-      (makes-intro a t v ps w few wide-w (passes-guard k ps pass) same, cc (labels-renamed σ (marks a) k, legal-labels (count a) k legal))
+      let same : held w ss ≡ u = cc (held-renamed σ (constantCount a) (arity a t) k ss (fits-assigns a t distinct fits v wide (length k) (arity a t) wide′ refl)) in
+      (makes-intro a t v ps w few wide-w (passes-guard k ps pass) same, cc (labels-renamed σ (marks a) k, legal-labels (constantCount a) k legal))
 
   -- the parameters of a step pass, and the new contents made for them are the smallest
   pub makes-passes : (ps w : List ℕ) → T (makes a t v ps w)
@@ -87,7 +87,7 @@ module _ (a : Automaton) (t : Transition) (distinct : Distinct (a .constants)) (
       let wide′ = makes-wide a t v ps w m in
       let (π, c, r) = to-labels cs w distinct in
       let same : h ≡ rename π u = cc (
-        held-renamed π (count a) (length ps) w ss (fits-assigns a t distinct fits v wide (length w) (length ps) wide′ few),
+        held-renamed π (constantCount a) (length ps) w ss (fits-assigns a t distinct fits v wide (length w) (length ps) wide′ few),
         makes-held a t v ps w m,
       ) in
       let e : labels cs u ≡ labels (marks a) h = cc (labels-renamed π cs u) in
@@ -134,21 +134,21 @@ module _ (a : Automaton) (t : Transition) (distinct : Distinct (a .constants)) (
     pub lowered-pooled : (ps : List ℕ) → length ps ≡ arity a t → Pooled n (a .constants) (lowered ps)
     lowered-pooled ps few =
         let cs : List ℕ = a .constants in
-        let room : count a + a .registers + arity a t ≤ n = leb→le (count a + a .registers + arity a t) n (search and-l) in
+        let room : constantCount a + a .registers + arity a t ≤ n = leb→le (constantCount a + a .registers + arity a t) n (search and-l) in
         identifiers-every InPool (notes cs v) (labels (notes cs v) ps) (notes-every InPool cs v known pooled)
         (λ y h. inr (omega (arith, notes-le cs v, labels-length (notes cs v) ps))) (notes-distinct cs v distinct) (labels-legal (notes cs v) ps)
 
-    value-pooled : (ps : List ℕ) → Pooled n (a .constants) ps → (x : Term) → T (fitsTerm (count a) (length v) (length ps) x) → InPool (value (a .constants) v ps x)
+    value-pooled : (ps : List ℕ) → Pooled n (a .constants) ps → (x : Term) → T (fitsTerm (constantCount a) (length v) (length ps) x) → InPool (value (a .constants) v ps x)
     value-pooled ps h (register i) f = let (low, high) = inside→ (length v) i f in pooled (item v i) (getD-mem v (pred i) 0 (omega arith))
     value-pooled ps h (parameter i) f = let (low, high) = inside→ (length ps) i f in h (item ps i) (getD-mem ps (pred i) 0 (omega arith))
-    value-pooled ps h (constant i) f = let (low, high) = inside→ (count a) i f in inl (getD-mem (a .constants) (pred i) 0 (omega arith))
+    value-pooled ps h (constant i) f = let (low, high) = inside→ (constantCount a) i f in inl (getD-mem (a .constants) (pred i) 0 (omega arith))
 
     written-pooled : (ps : List ℕ) → length ps ≡ arity a t → Pooled n (a .constants) ps → Pooled n (a .constants) (written (a .constants) v ps (t .assigns))
     written-pooled ps few h y m =
         let (s, sm, e) = Memᴰ·of-map (λ s. value (a .constants) v ps (s .source)) (t .assigns) m in
-        let f : T (fitsAssignment (count a) (length v) (length ps) s) =
-        allOf-mem (fitsAssignment (count a) (length v) (length ps)) (t .assigns) (fits-assigns a t distinct fits v wide (length v) (length ps) wide few) sm in
-        subst InPool e (value-pooled ps h (s .source) (and-r (inside (length v) (s .register)) (fitsTerm (count a) (length v) (length ps) (s .source)) f))
+        let f : T (fitsAssignment (constantCount a) (length v) (length ps) s) =
+        allOf-mem (fitsAssignment (constantCount a) (length v) (length ps)) (t .assigns) (fits-assigns a t distinct fits v wide (length v) (length ps) wide few) sm in
+        subst InPool e (value-pooled ps h (s .source) (and-r (inside (length v) (s .register)) (fitsTerm (constantCount a) (length v) (length ps) (s .source)) f))
 
     pub renewed-pooled : (k ps : List ℕ) → length k ≡ a .registers → length ps ≡ arity a t → T (passes a t v k ps) → Pooled n (a .constants) ps
         → Pooled n (a .constants) (renewed a t v k ps)
@@ -156,7 +156,7 @@ module _ (a : Automaton) (t : Transition) (distinct : Distinct (a .constants)) (
         let cs : List ℕ = a .constants in
         let u : List ℕ = written cs v ps (t .assigns) in
         let l : List ℕ = labels (notes (marks a) (held k (t .assigns))) k in
-        let room : count a + a .registers + length (t .assigns) ≤ n = leb→le (count a + a .registers + length (t .assigns)) n (search and-r) in
+        let room : constantCount a + a .registers + length (t .assigns) ≤ n = leb→le (constantCount a + a .registers + length (t .assigns)) n (search and-r) in
         identifiers-every InPool (notes cs u) l (notes-every InPool cs u known (written-pooled ps few h))
         (λ y q. inr (omega (arith, notes-le cs u, labels-length (notes (marks a) (held k (t .assigns))) k, length-map (t .assigns) (λ s. value cs v ps (s .source)))))
         (notes-distinct cs u distinct) (passes-legal k ps pass)

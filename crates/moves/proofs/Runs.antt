@@ -22,7 +22,7 @@ use Rattle.classes.proofs.Identifiers.{identifiers-every}
 use Rattle.classes.proofs.Catalogue.{lists-mem}
 use Rattle.automata.specs.Automaton.{Automaton, meets}
 use Rattle.automata.specs.Runs.{State, Move, isStep, after, permitted, initial, follows, final, Target, hits}
-use Rattle.automata.specs.WellFormed.{wellFormed, Proper, count, fitsTarget}
+use Rattle.automata.specs.WellFormed.{wellFormed, Proper, constantCount, fitsTarget}
 use Rattle.automata.specs.Configurations.{Configuration, marks, conf, stepConf, configuration, configurations, number, numbered, rows, starts, startConf, targets, Listed, Related}
 use Rattle.automata.specs.Answers.{nearestTo, Verdict}
 use Rattle.automata.proofs.Numbering.{configuration-path, number-numbered, rows-length}
@@ -90,14 +90,14 @@ module _ (n : ℕ) (a : Automaton) (wf : T (wellFormed a)) (room : T (roomy n a)
       subst⁻¹ (λ o. EachSmallest n a s (elim o [ none ↦ [] | some m ↦ m ∷ through n a (after a m) ds ]) (d ∷ ds)) e (is, more)
 
   -- the contents given back for a class are constants or small
-  contents-pooled : (k : List ℕ) → Legal (count a) k → length k ≡ a .registers → Pooled n (a .constants) (contents (a .constants) k)
+  contents-pooled : (k : List ℕ) → Legal (constantCount a) k → length k ≡ a .registers → Pooled n (a .constants) (contents (a .constants) k)
   contents-pooled k legal wide =
-      let h : count a + a .registers ≤ n = leb→le (count a + a .registers) n (search and-l) in
+      let h : constantCount a + a .registers ≤ n = leb→le (constantCount a + a .registers) n (search and-l) in
       identifiers-every (λ x. List·Memᴰ x (a .constants) ⊎ (x < n)) (a .constants) k (λ y m. inl m) (λ y u. inr (omega arith)) (wf-constants a wf) legal
 
   start-conf : (c : Configuration) → Listed a c → T (startConf a c) → conf a (initial a (startContents a c)) ≡ c
   start-conf c listed ok =
-      let legal = lists-mem (a .registers) (count a) (c .class) (listed .class) .0 in
+      let legal = lists-mem (a .registers) (constantCount a) (c .class) (listed .class) .0 in
       let at : c .location ≡ a .start = eqb→eq (c .location) (a .start) (and-l (eqb (c .location) (a .start)) (allOf (meets (marks a) (c .class) []) (a .starting)) ok) in
       configuration-path (conf a (initial a (startContents a c))) c (sym at) (contents-labels (a .constants) (c .class) (wf-constants a wf) legal)
 
@@ -107,7 +107,7 @@ module _ (n : ℕ) (a : Automaton) (wf : T (wellFormed a)) (room : T (roomy n a)
       let v : List ℕ = startContents a c in
       let s : State = initial a v in
       let ms : List Move = movesAlong n a c ds in
-      let (legal, wide) = lists-mem (a .registers) (count a) (c .class) (listed .class) in
+      let (legal, wide) = lists-mem (a .registers) (constantCount a) (c .class) (listed .class) in
       let proper : Proper a s = record { location = wf-start a wf; wide = contents-length (a .constants) (c .class) ∙ wide } in
       let same : conf a s ≡ c = start-conf c listed ok in
       let small : Pooled n (a .constants) v = contents-pooled (c .class) legal wide in

@@ -18,7 +18,7 @@ use Rattle.classes.specs.Classes.{labels, notes, identifiers, Legal}
 use Rattle.classes.proofs.Catalogue.{lists-mem}
 use Rattle.automata.specs.Automaton.{Transition, Automaton, arity}
 use Rattle.automata.specs.Runs.{State, Move, nowhere, transitionOf, makes, isStep, after}
-use Rattle.automata.specs.WellFormed.{wellFormed, Proper, count}
+use Rattle.automata.specs.WellFormed.{wellFormed, Proper, constantCount}
 use Rattle.automata.specs.Configurations.{Configuration, conf, stepClass, stepBy, stepConf, Listed}
 use Rattle.automata.specs.Examples.{isSome}
 use Rattle.automata.proofs.StepClasses.{makes-few, step-to-class, class-to-step}
@@ -31,11 +31,11 @@ use Rattle.moves.proofs.Renewed.{renewed-makes, makes-passes, lowered, 
 
 module _ (n : ℕ) (a : Automaton) (wf : T (wellFormed a)) (room : T (roomy n a)) (s : State) (proper : Proper a s) (pooled : Pooled n (a .constants) (s .valuation))
     (d : Configuration) (listed : Listed a d) where
-  legal : Legal (count a) (d .class)
-  legal = lists-mem (a .registers) (count a) (d .class) (listed .class) .0
+  legal : Legal (constantCount a) (d .class)
+  legal = lists-mem (a .registers) (constantCount a) (d .class) (listed .class) .0
 
   wide : length (d .class) ≡ a .registers
-  wide = lists-mem (a .registers) (count a) (d .class) (listed .class) .1
+  wide = lists-mem (a .registers) (constantCount a) (d .class) (listed .class) .1
 
   room-for : {t : Transition} → List·Memᴰ t (a .transitions) → T (roomyFor n a t)
   room-for m = let h : T (allOf (roomyFor n a) (a .transitions)) = search and-r in allOf-mem (roomyFor n a) (a .transitions) h m

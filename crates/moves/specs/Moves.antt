@@ -9,11 +9,10 @@ use mathlib.Core.Path.{_≡_}
 use lib.Dec.{T, eqb, leb}
 use lib.ListN.{length}
 use Rattle.graphs.specs.Lists.{upFrom, eqList, allOf, select, first, table, AtMost}
-use Rattle.classes.specs.Renaming.{rising}
 use Rattle.classes.specs.Classes.{labels, notes, identifiers}
 use Rattle.automata.specs.Automaton.{Transition, Automaton, arity, meets}
 use Rattle.automata.specs.Runs.{State, Move, transitionOf, isStep, after}
-use Rattle.automata.specs.WellFormed.{count}
+use Rattle.automata.specs.WellFormed.{constantCount}
 use Rattle.automata.specs.Configurations.{Configuration, marks, written, held, conf}
 
 -- What is to be found
@@ -88,11 +87,7 @@ smallest n a s d = smallestFrom n a s d 1 (length (a .transitions))
 
 -- there are enough identifiers below n
 abbrev pub roomyFor : ℕ → Automaton → Transition → Bool
-roomyFor n a t = leb (count a + a .registers + arity a t) n && leb (count a + a .registers + length (t .assigns)) n
+roomyFor n a t = leb (constantCount a + a .registers + arity a t) n && leb (constantCount a + a .registers + length (t .assigns)) n
 
 abbrev pub roomy : ℕ → Automaton → Bool
-roomy n a = leb (count a + a .registers) n && allOf (roomyFor n a) (a .transitions)
-
--- document 01's limits: 5 registers, 2 constants, 3 parameters, and each transition assigns registers in rising order
-abbrev pub limited : Automaton → Bool
-limited a = leb (a .registers) 5 && leb (count a) 2 && allOf (λ n. leb n 3) (a .arities) && allOf (λ t. rising (map (λ s. s .register) (t .assigns))) (a .transitions)
+roomy n a = leb (constantCount a + a .registers) n && allOf (roomyFor n a) (a .transitions)

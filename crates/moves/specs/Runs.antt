@@ -11,7 +11,7 @@ use Rattle.graphs.specs.Search.Walk.{start, _▸_}
 use Rattle.classes.specs.Classes.{identifiers, contents}
 use Rattle.automata.specs.Automaton.{Automaton}
 use Rattle.automata.specs.Runs.{State, Move, after, initial, isRun, Target, Shortest, Never}
-use Rattle.automata.specs.WellFormed.{count}
+use Rattle.automata.specs.WellFormed.{constantCount}
 use Rattle.automata.specs.Configurations.{Configuration, conf, stepConf, Listed, number, numbered}
 use Rattle.moves.specs.Moves.{Pooled, Smallest, smallest}
 

@@ -1,0 +1,2 @@
+-- What the contracts of the relation cite.
+pub mod Stored
