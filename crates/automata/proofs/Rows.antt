@@ -1,9 +1,9 @@
 -- The formulas of a question's rows: a row's formula does not change by what follows, and rows that fit make formulas that fit.
 -- Assumes nothing.
-use Prim.Native.Nat.{ℕ, zero, suc, pred, _+_, _≤_, _<_}
-use mathlib.Core.Bool.{Bool, true, _&&_}
+use Prim.Native.Nat.{ℕ, zero, suc, pred, _+_, _<_}
+use mathlib.Core.Bool.{true, _&&_}
 use mathlib.Core.List.{List, [], _∷_, _++_}
-use mathlib.Core.Path.{_≡_, refl, sym, ap, _∙_}
+use mathlib.Core.Path.{_≡_, refl, _∙_}
 use native.Mathlib.Omega.{arith}
 use lib.Dec.{T}
 use lib.Ieee.Fits.{and-i, and-l, and-r}
@@ -12,7 +12,7 @@ use Rattle.graphs.specs.Lists.{allOf}
 use Rattle.graphs.specs.Formulas.{Formula}
 use Rattle.graphs.specs.Formulas.Formula.{truth}
 use Rattle.automata.specs.Automaton.{Automaton}
-use Rattle.automata.specs.Questions.{Atom, Row, Kind, kinds, kindOf, rowOf, rowFormula, formulasFrom, rowFormulas, question}
+use Rattle.automata.specs.Questions.{Atom, Row, Kind, kinds, rowOf, rowFormula, formulasFrom, rowFormulas}
 use Rattle.automata.specs.Questions.Use.{rowNumber, unused}
 use Rattle.automata.specs.WellFormed.{constantCount, fitsFormula, fitsUse, fitsRow, fitsRows, fitsQuestion, inside}
 
