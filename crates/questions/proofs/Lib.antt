@@ -1,0 +1,4 @@
+-- The theorems that other crates cite.
+pub mod KindTable
+pub mod Simulation
+pub mod Outcomes
