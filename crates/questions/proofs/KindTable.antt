@@ -1,12 +1,12 @@
 -- The code's shapes of the fourteen kinds are those of the table of kinds in crate automata (`shape-kind`). Assumes nothing.
 use Prim.Native.Nat.{ℕ, zero, suc, _+_, _≤_}
 use mathlib.Core.Bool.{true, and-eq-true-iff}
-use mathlib.Core.List.{List, [], _∷_, map}
-use mathlib.Core.Path.{_≡_, refl, sym, ap, _∙_}
+use mathlib.Core.List.{List, [], _∷_}
+use mathlib.Core.Path.{_≡_, refl, sym, ap}
 use native.Mathlib.Omega.{arith}
 use borrow.Author.Tests.{leb-true}
 use lib.Dec.{leb}
-use lib.ListN.{getD, List·getD-map, List·getD-eq-default}
+use lib.ListN.{List·getD-map, List·getD-eq-default}
 use Rattle.graphs.specs.Formulas.{Formula}
 use Rattle.automata.specs.Questions.{Atom, Kind, kind, kindOf}
 use Rattle.automata.specs.WellFormed.{inside}

@@ -2,3 +2,5 @@
 pub mod KindTable
 pub mod Simulation
 pub mod Outcomes
+pub mod Fits
+pub mod Sample

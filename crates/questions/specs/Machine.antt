@@ -1,7 +1,7 @@
 -- The reader of a question as a machine over bytes. `file-run` of `proofs/Simulation` shows that it reads what `Question.readLines` says.
 -- Assumes nothing.
 use Prim.Native.Nat.{ℕ, _+_}
-use mathlib.Core.Bool.{Bool, true, false, cond, _&&_}
+use mathlib.Core.Bool.{true, false, cond, _&&_}
 use mathlib.Core.List.{List, [], _∷_}
 use lib.Dec.{eqb}
 use lib.ListN.{getD}

@@ -8,7 +8,7 @@ use Rattle.automata.specs.Questions.Use.{locationNumber, registerNumber, consta
 use Rattle.automata.specs.WellFormed.{inside}
 use Rattle.questions.specs.declared.Counts.{Counts}
 
--- refusal 5, or 0 where x counts from 1 up to most
+-- the refusal, or 0 where x counts from 1 up to most
 abbrev pub judgeNumber : ℕ → ℕ → ℕ → ℕ
 judgeNumber refusal most x = cond (inside most x) 0 refusal
 

@@ -3,7 +3,7 @@ ghost use mathlib.Core.Path.{_≡_};
 ghost use mathlib.Core.List.{List};
 ghost use Prim.Native.Nat.{ℕ, _^_, _≤_};
 ghost use lib.ListN.{length, set};
-ghost use Rattle.questions.specs.Shapes.{useOf, shapeOf};
+ghost use Rattle.questions.specs.Shapes.{useOf, shape, shapeOf};
 ghost use Rattle.questions.specs.Rules.{judgeNumber, judgeField, judgeRow};
 ghost use Rattle.questions.specs.Form.{row, noRows, put};
 ghost use Rattle.questions.specs.Question.{counts, readQuestion};
@@ -46,26 +46,36 @@ pub struct Shape {
     pub rule: Rule,
 }
 
-// The shape of a kind; outside of 1 to 14 it names nothing and is true.
+fn shaped(first: Use, second: Use, rule: Rule) -> Shape
+    ensures { λ r. ⌜ r ≡ shape first second rule ⌝ }
+{
+    Shape {
+        first: first,
+        second: second,
+        rule: rule,
+    }
+}
+
+// The shape of a kind; a number that is no kind names nothing and is true.
 pub fn shape_of(kind: u32) -> Shape
     ensures { λ r. ⌜ r ≡ shapeOf kind ⌝ }
 {
     match kind {
-        1 => Shape { first: Use::Location, second: Use::Unused, rule: Rule::At },
-        2 => Shape { first: Use::Register, second: Use::Register, rule: Rule::Equal },
-        3 => Shape { first: Use::Register, second: Use::Constant, rule: Rule::Is },
-        4 => Shape { first: Use::Row, second: Use::Unused, rule: Rule::Not },
-        5 => Shape { first: Use::Row, second: Use::Row, rule: Rule::And },
-        6 => Shape { first: Use::Row, second: Use::Unused, rule: Rule::Ex },
-        7 => Shape { first: Use::Row, second: Use::Row, rule: Rule::Until },
-        8 => Shape { first: Use::Row, second: Use::Unused, rule: Rule::Globally },
-        9 => Shape { first: Use::Row, second: Use::Row, rule: Rule::Or },
-        10 => Shape { first: Use::Row, second: Use::Row, rule: Rule::Implies },
-        11 => Shape { first: Use::Row, second: Use::Unused, rule: Rule::AllNext },
-        12 => Shape { first: Use::Row, second: Use::Unused, rule: Rule::Finally },
-        13 => Shape { first: Use::Row, second: Use::Unused, rule: Rule::AllGlobally },
-        14 => Shape { first: Use::Row, second: Use::Unused, rule: Rule::AllFinally },
-        _ => Shape { first: Use::Unused, second: Use::Unused, rule: Rule::Truth },
+        1 => shaped(Use::Location, Use::Unused, Rule::At),
+        2 => shaped(Use::Register, Use::Register, Rule::Equal),
+        3 => shaped(Use::Register, Use::Constant, Rule::Is),
+        4 => shaped(Use::Row, Use::Unused, Rule::Not),
+        5 => shaped(Use::Row, Use::Row, Rule::And),
+        6 => shaped(Use::Row, Use::Unused, Rule::Ex),
+        7 => shaped(Use::Row, Use::Row, Rule::Until),
+        8 => shaped(Use::Row, Use::Unused, Rule::Globally),
+        9 => shaped(Use::Row, Use::Row, Rule::Or),
+        10 => shaped(Use::Row, Use::Row, Rule::Implies),
+        11 => shaped(Use::Row, Use::Unused, Rule::AllNext),
+        12 => shaped(Use::Row, Use::Unused, Rule::Finally),
+        13 => shaped(Use::Row, Use::Unused, Rule::AllGlobally),
+        14 => shaped(Use::Row, Use::Unused, Rule::AllFinally),
+        _ => shaped(Use::Unused, Use::Unused, Rule::Truth),
     }
 }
 
@@ -247,14 +257,23 @@ fn finish(r: Reader) -> Reply
     let x = r.number;
     if x == 0 {
         if r.partial {
-            return Reply::Refused { number: 2, line: line };
+            return Reply::Refused {
+                number: 2,
+                line: line,
+            };
         }
         if n == 0 {
-            return Reply::Refused { number: 2, line: line };
+            return Reply::Refused {
+                number: 2,
+                line: line,
+            };
         }
         return Reply::Accepted(n as usize);
     }
-    Reply::Refused { number: x, line: line }
+    Reply::Refused {
+        number: x,
+        line: line,
+    }
 }
 
 // Reads a question to a table with these counts; a refusal leaves the rows as they are.

@@ -35,16 +35,16 @@ same-length c = search needs
 returns : tie.Need-returns
 unfolding afterLine formAfterLine
 returns c = (
-      simp (← c .before .before .before .before .before .before .before .before .close .ensures, ← c .before .before .before .before .before .before .before .judge-line .ensures, eq-eqb _ _ (c .before .before .before .before .before .before .if1 .taken)) (c .before-line .ensures),
-      simp (← c .before .before .before .before .before .before .before .before .close .ensures, ← c .before .before .before .before .before .before .before .judge-line .ensures, eq-eqb _ _ (c .before .before .before .before .before .before .if1 .taken)) (c .before .before .before .put-row .ensures),
-    )
+  simp (← c .before .before .before .before .before .before .before .before .close .ensures, ← c .before .before .before .before .before .before .before .judge-line .ensures, eq-eqb _ _ (c .before .before .before .before .before .before .if1 .taken)) (c .before-line .ensures),
+  simp (← c .before .before .before .before .before .before .before .before .close .ensures, ← c .before .before .before .before .before .before .before .judge-line .ensures, eq-eqb _ _ (c .before .before .before .before .before .before .if1 .taken)) (c .before .before .before .put-row .ensures),
+)
 
 returns-2 : tie.Need-returns-2
 unfolding afterLine formAfterLine
 returns-2 c = (
-      simp (← c .before .before .close .ensures, ← c .before .judge-line .ensures, ne-eqb _ _ (c .if1 .left)),
-      simp (← c .before .before .close .ensures, ← c .before .judge-line .ensures, ne-eqb _ _ (c .if1 .left)),
-    )
+  simp (← c .before .before .close .ensures, ← c .before .judge-line .ensures, ne-eqb _ _ (c .if1 .left)),
+  simp (← c .before .before .close .ensures, ← c .before .judge-line .ensures, ne-eqb _ _ (c .if1 .left)),
+)
 
 pub end-line-spec : {M : Type 1} → statement M
 end-line-spec =

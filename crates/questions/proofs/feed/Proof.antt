@@ -14,9 +14,9 @@ same-length c = search needs
 returns : tie.Need-returns
 unfolding fed wrote
 returns c = (
-      simp (eq-eqb _ _ (c .before .before .before .before .if2 .taken), eq-eqb _ _ (c .before .before .before .before .before .if1 .taken)) (c .before .before .end-line .ensures .0),
-      simp (eq-eqb _ _ (c .before .before .before .before .if2 .taken), eq-eqb _ _ (c .before .before .before .before .before .if1 .taken)) (c .before .before .end-line .ensures .1),
-    )
+  simp (eq-eqb _ _ (c .before .before .before .before .if2 .taken), eq-eqb _ _ (c .before .before .before .before .before .if1 .taken)) (c .before .before .end-line .ensures .0),
+  simp (eq-eqb _ _ (c .before .before .before .before .if2 .taken), eq-eqb _ _ (c .before .before .before .before .before .if1 .taken)) (c .before .before .end-line .ensures .1),
+)
 
 step-requires : tie.Need-step-requires
 step-requires c κs = search needs
@@ -24,9 +24,9 @@ step-requires c κs = search needs
 returns-2 : tie.Need-returns-2
 unfolding fed wrote
 returns-2 c = (
-      simp (eq-eqb _ _ (c .before .before .if1 .taken), ne-eqb _ _ (c .before .if2 .left), c .step .ensures),
-      simp (eq-eqb _ _ (c .before .before .if1 .taken), ne-eqb _ _ (c .before .if2 .left)),
-    )
+  simp (eq-eqb _ _ (c .before .before .if1 .taken), ne-eqb _ _ (c .before .if2 .left), c .step .ensures),
+  simp (eq-eqb _ _ (c .before .before .if1 .taken), ne-eqb _ _ (c .before .if2 .left)),
+)
 
 returns-3 : tie.Need-returns-3
 unfolding fed wrote

@@ -1,5 +1,4 @@
 -- `questions::judge_number` meets its contract. Assumes nothing.
-use borrow.Author.Needs.{needs}
 use Rattle.questions.proofs.judge_number.Statement.{statement}
 use Rattle.questions.proofs.judge_number.Tie as tie
 

@@ -1,7 +1,6 @@
 -- `questions::judge_row` meets its contract. Assumes nothing.
 use borrow.Author.Needs.{needs}
 use borrow.Author.Tests.{eq-eqb, ne-eqb}
-use mathlib.Core.Path.{_∙_, sym}
 use Rattle.questions.specs.Rules.{judgeRow}
 use Rattle.questions.proofs.KindTable.{judge-shape}
 use Rattle.questions.proofs.judge_row.Statement.{statement}

@@ -31,7 +31,7 @@ same-length c = search needs
 
 returns : tie.Need-returns
 unfolding put
-returns c = 
+returns c =
     let a = c .before .before .before .before .before .before .before .before .before .before .before .before .before .args in
     c .before .before .store3 .ensures
     ∙ ap (λ (x : List ℕ). set x (3 * a .n + 2) (a .b)) (c .before .before .before .before .before .before .store2 .ensures

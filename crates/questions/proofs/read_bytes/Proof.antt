@@ -1,5 +1,5 @@
 -- `questions::read_bytes` meets its contract. Assumes nothing.
-use Prim.Native.Nat.{ℕ, _≤_, _-_, _+_}
+use Prim.Native.Nat.{_≤_, _-_, _+_}
 use lib.ListN.{length, drop, getD}
 use mathlib.Core.Path.{_≡_, refl, _∙_, ap}
 use native.Mathlib.Omega.{arith}
@@ -35,7 +35,7 @@ loop-less : tie.Need-loop-less Inv-loop μ-loop
 loop-less c = omega arith
 
 loop-again : tie.Need-loop-again Inv-loop μ-loop
-loop-again c = 
+loop-again c =
     let v = c .before .before .before .before .before .before .loop in
     let g = c .before .before .feed in
     let a = c .before .before .before .before .before .before .before .before .before .before .args in
@@ -50,7 +50,7 @@ same-length : tie.Need-same-length Inv-loop μ-loop
 same-length c = c .before .loop .inv .3
 
 returns : tie.Need-returns Inv-loop μ-loop
-returns c = 
+returns c =
     let v = c .before .loop in
     let a = c .before .before .before .before .before .args in (
       run-end (a .c) (a .s .now) (v .t) (v .r) (v .i) _ (c .loop-test .left) (v .inv .1) ∙ ap (λ (r : Reader). run (a .c) r (a .t .now) (a .s .now)) (c .before .before .before-line .ensures),

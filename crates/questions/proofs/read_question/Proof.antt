@@ -9,7 +9,7 @@ use Rattle.questions.proofs.read_question.Statement.{statement}
 use Rattle.questions.proofs.read_question.Tie as tie
 
 returns : tie.Need-returns
-returns c = 
+returns c =
     let a = c .before .before .args in
     let e = read-long (a .registers) (a .constants) (a .locations) (a .s .now) (c .if1 .taken) in
     (rw e, rw e)
@@ -30,7 +30,7 @@ enum-told-2 : tie.Need-enum-told-2
 enum-told-2 c = search needs
 
 returns-2 : tie.Need-returns-2
-returns-2 c = 
+returns-2 c =
     let a = c .before .before .before .before .before .before .before .before .args in
     let d = c .before .before .before .before .read-bytes in
     let o : Outcome = ending (d .result) (d .last .1 .1 .0) in
@@ -41,7 +41,7 @@ returns-2 c =
     )
 
 returns-3 : tie.Need-returns-3
-returns-3 c = 
+returns-3 c =
     let a = c .before .before .before .before .before .before .before .before .args in
     let d = c .before .before .before .before .read-bytes in
     let o : Outcome = ending (d .result) (d .last .1 .1 .0) in
