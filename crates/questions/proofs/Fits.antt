@@ -14,7 +14,7 @@ use lib.ListN.{length, getD, set, replicate, length-set, length-map, length-repl
 use lib.Seq.{getD-set-same, getD-set-other}
 use Rattle.fields.specs.Format.{field, both, fields}
 use Rattle.graphs.specs.Lists.{upFrom}
-use Rattle.graphs.proofs.Lists.{upFrom-length, upFrom-append}
+use Rattle.graphs.proofs.Lists.{getD-map, upFrom-length, upFrom-getD, upFrom-append}
 use Rattle.automata.specs.Automaton.{Automaton}
 use Rattle.automata.specs.Questions.{Row, Use, kindOf}
 use Rattle.automata.specs.Questions.Use.{locationNumber, registerNumber, constantNumber, rowNumber, unused}
@@ -103,6 +103,9 @@ module _ (t : List ℕ) (n : ℕ) (r : Row) where
 
     put-at : rowAt (put t n r) n ≡ r
     put-at = let a = put-kind in let b = put-first in let c = put-second in λ j. row (a j) (b j) (c j)
+
+pub rows-length : (t : List ℕ) (n : ℕ) → length (rowsOf t n) ≡ n
+rows-length t n = length-map (upFrom 0 n) (rowAt t) ∙ upFrom-length 0 n
 
 -- equal where their values are
 map-upFrom : (f g : ℕ → Row) (i n : ℕ) → ((j : ℕ) → j < i + n → f j ≡ g j) → map f (upFrom i n) ≡ map g (upFrom i n)
@@ -210,7 +213,7 @@ module _ (a : Automaton) where
   after-row : (t : List ℕ) (n : ℕ) (r : Row) → After t n → n < 32 → judgeRow countsOf n r ≡ 0 → After (put t n r) (n + 1)
   after-row t n r s h e =
       let k : 3 * n + 2 < length t = omega (arith, s .size) in
-      let l : 0 + length (rowsOf t n) ≡ n = omega (arith, length-map (upFrom 0 n) (rowAt t), upFrom-length 0 n) in
+      let l : 0 + length (rowsOf t n) ≡ n = omega (arith, rows-length t n) in
       record {
         size = put-length t n r ∙ s .size;
         most = omega arith;
@@ -267,7 +270,7 @@ module _ (a : Automaton) where
     where
       asks : After t n × (1 ≤ n) → Asks t n
       asks (f, l) =
-          let c : n ≡ length (rowsOf t n) = sym (length-map (upFrom 0 n) (rowAt t) ∙ upFrom-length 0 n) in
+          let c : n ≡ length (rowsOf t n) = sym (rows-length t n) in
           record {
             long = f .size;
             least = l;
@@ -288,3 +291,26 @@ module _ (a : Automaton) where
 
   pub question-fits : (s t : List ℕ) (n : ℕ) → readQuestion (a .registers) (length (a .constants)) (a .locations) s ≡ rows t n → T (fitsQuestion a (rowsOf t n))
   question-fits s t n e = question-form s t n e .fits
+
+-- The rows of a form, one by one
+
+pub rows-at : (t : List ℕ) (n i : ℕ) (d : Row) → i < n → getD (rowsOf t n) i d ≡ rowAt t i
+rows-at t n i d h =
+    let l : i < length (upFrom 0 n) = omega (arith, upFrom-length 0 n) in
+    let z : 0 + i ≡ i = omega arith in
+    getD-map (rowAt t) (upFrom 0 n) i 0 d l ∙ ap (rowAt t) (upFrom-getD 0 n i h ∙ z)
+
+fits-at : (a : Automaton) (k : ℕ) (rs : List Row) (i : ℕ) (d : Row) → i < length rs → T (fitsRows a k rs) → T (fitsRow a (k + i) (getD rs i d))
+fits-at a k [] i d h f = absurd (omega arith)
+fits-at a k (r ∷ rs) zero d h f = let z : k + 0 ≡ k = omega arith in rw z (and-l (fitsRow a k r) (fitsRows a (suc k) rs) f)
+fits-at a k (r ∷ rs) (suc i) d h f =
+    let z : k + suc i ≡ suc k + i = omega arith in
+    rw z (fits-at a (suc k) rs i d (omega arith) (and-r (fitsRow a k r) (fitsRows a (suc k) rs) f))
+
+-- row i of a question fits the table, after i rows
+pub row-fits : (a : Automaton) (t : List ℕ) (n i : ℕ) → T (fitsQuestion a (rowsOf t n)) → i < n → T (fitsRow a i (rowAt t i))
+row-fits a t n i f h =
+    let l : i < length (rowsOf t n) = omega (arith, rows-length t n) in
+    let z : 0 + i ≡ i = omega arith in
+    let g : T (fitsRow a (0 + i) (getD (rowsOf t n) i (rowAt t i))) = fits-at a 0 (rowsOf t n) i (rowAt t i) l (and-r (inside 32 (length (rowsOf t n))) (fitsRows a 0 (rowsOf t n)) f) in
+    subst (λ (r : Row). T (fitsRow a i r)) (rows-at t n i (rowAt t i) h) (rw z at g)

@@ -35,6 +35,8 @@ pub inevitable-read : formulaOf (readQuestion 2 1 3 inevitable) ≡ some (AF (at
 unfolding inevitable glyphOf judgeField judgeRow put readQuestion
 inevitable-read = refl
 
+-- Refusals
+
 -- an empty file has no line 1
 empty-refused : readQuestion 2 1 3 [] ≡ refused 2 1
 unfolding readQuestion
@@ -44,3 +46,23 @@ empty-refused = refl
 forward-refused : readQuestion 2 1 3 (always ++ (32 ∷ 32 ∷ 32 ∷ 32 ∷ 32 ∷ 52 ∷ 32 ∷ 32 ∷ 32 ∷ 32 ∷ 32 ∷ 57 ∷ 32 ∷ 32 ∷ 32 ∷ 32 ∷ 32 ∷ 53 ∷ 10 ∷ [])) ≡ refused 8 3
 unfolding always glyphOf judgeField judgeRow put readQuestion
 forward-refused = refl
+
+-- `4 3 0`: a row does not name itself
+own-refused : readQuestion 2 1 3 (always ++ (32 ∷ 32 ∷ 32 ∷ 32 ∷ 32 ∷ 52 ∷ 32 ∷ 32 ∷ 32 ∷ 32 ∷ 32 ∷ 51 ∷ 32 ∷ 32 ∷ 32 ∷ 32 ∷ 32 ∷ 48 ∷ 10 ∷ [])) ≡ refused 8 3
+unfolding always glyphOf judgeField judgeRow put readQuestion
+own-refused = refl
+
+-- `4 1 5`: an unused field is 0
+unused-refused : readQuestion 2 1 3 (always ++ (32 ∷ 32 ∷ 32 ∷ 32 ∷ 32 ∷ 52 ∷ 32 ∷ 32 ∷ 32 ∷ 32 ∷ 32 ∷ 49 ∷ 32 ∷ 32 ∷ 32 ∷ 32 ∷ 32 ∷ 53 ∷ 10 ∷ [])) ≡ refused 5 3
+unfolding always glyphOf judgeField judgeRow put readQuestion
+unused-refused = refl
+
+-- `15 9 0`: there are fourteen kinds
+kind-refused : readQuestion 2 1 3 (always ++ (32 ∷ 32 ∷ 32 ∷ 32 ∷ 49 ∷ 53 ∷ 32 ∷ 32 ∷ 32 ∷ 32 ∷ 32 ∷ 57 ∷ 32 ∷ 32 ∷ 32 ∷ 32 ∷ 32 ∷ 48 ∷ 10 ∷ [])) ≡ refused 5 3
+unfolding always glyphOf judgeField judgeRow put readQuestion
+kind-refused = refl
+
+-- `4 1 0` without byte 10
+open-refused : readQuestion 2 1 3 (always ++ (32 ∷ 32 ∷ 32 ∷ 32 ∷ 32 ∷ 52 ∷ 32 ∷ 32 ∷ 32 ∷ 32 ∷ 32 ∷ 49 ∷ 32 ∷ 32 ∷ 32 ∷ 32 ∷ 32 ∷ 48 ∷ [])) ≡ refused 2 3
+unfolding always glyphOf judgeField judgeRow put readQuestion
+open-refused = refl
