@@ -12,7 +12,7 @@ use lib.Dec.{T, leb, ltb, eqb, leb→le, le→leb, eqb→eq}
 use lib.Ieee.Fits.{and-i, and-l, and-r}
 use lib.ListN.{length, getD, set, replicate, length-set, length-map, length-replicate}
 use lib.Seq.{getD-set-same, getD-set-other}
-use Rattle.fields.specs.Format.{field, both, fields}
+use Rattle.fields.specs.Format.{field, both, fields, onto, pieces}
 use Rattle.graphs.specs.Lists.{upFrom}
 use Rattle.graphs.proofs.Lists.{getD-map, upFrom-length, upFrom-getD, upFrom-append}
 use Rattle.automata.specs.Automaton.{Automaton}
@@ -22,7 +22,7 @@ use Rattle.automata.specs.WellFormed.{inside, fitsUse, fitsRow, fitsRows, fitsQ
 use Rattle.questions.specs.declared.Counts.{Counts}
 use Rattle.questions.specs.Rules.{firstOf, judgeField, judgeRow}
 use Rattle.questions.specs.Form.{row, noRows, put, rowAt, rowsOf}
-use Rattle.questions.specs.Question.{onto, pieces, three, onLine, readLines, counts, readQuestion}
+use Rattle.questions.specs.Question.{three, onLine, readLines, counts, readQuestion}
 use Rattle.questions.specs.Question.Outcome.{rows, refused}
 
 -- The bytes of lines

@@ -10,14 +10,14 @@ use mathlib.Core.List.{List, [], _∷_, _++_, append-assoc, append-nil}
 use mathlib.Core.Bool.{Bool, true, false, cond}
 use mathlib.Core.Option.{Option, some, none}
 use lib.Dec.{eqb}
-use Rattle.fields.specs.Format.{fields}
+use Rattle.fields.specs.Format.{fields, onto, pieces}
 use Rattle.fields.specs.Scan.{blank, scan, scans, closed, lineOf}
 use Rattle.fields.specs.declared.Line.{Line}
 use Rattle.fields.proofs.Simulation.{line-run}
 use Rattle.questions.specs.declared.Counts.{Counts}
 use Rattle.questions.specs.declared.Reader.{Reader}
 use Rattle.questions.specs.Form.{noRows, put}
-use Rattle.questions.specs.Question.{Outcome, onto, pieces, three, judged, onLine, readLines}
+use Rattle.questions.specs.Question.{Outcome, three, judged, onLine, readLines}
 use Rattle.questions.specs.Question.Outcome.{refused}
 use Rattle.questions.specs.Machine.{rowRead, judgeRead, between, afterLine, formAfterLine, fed, wrote, ending, run}
 

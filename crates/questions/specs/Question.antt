@@ -1,12 +1,12 @@
 -- What reading a question gives, for every list of bytes. This is what a reader believes.
 -- Assumes nothing.
 use Prim.Native.Nat.{ℕ, _+_}
-use mathlib.Core.Bool.{Bool, true, false, cond}
+use mathlib.Core.Bool.{cond}
 use mathlib.Core.List.{List, [], _∷_}
 use mathlib.Core.Option.{Option, some, none}
 use lib.Dec.{ltb, eqb}
 use lib.ListN.{length}
-use Rattle.fields.specs.Format.{fields}
+use Rattle.fields.specs.Format.{fields, pieces}
 use Rattle.automata.specs.Questions.{Row}
 use Rattle.questions.specs.declared.Counts.{Counts}
 use Rattle.questions.specs.Rules.{judgeRow}
@@ -16,16 +16,6 @@ use Rattle.questions.specs.Form.{row, noRows, put}
 pub data Outcome : Type 0 where
   rows : List ℕ → ℕ → Outcome
   refused : ℕ → ℕ → Outcome
-
--- a byte before these pieces of a file: a byte 10 begins a new one
-abbrev pub onto : Bool → ℕ → List ℕ × List (List ℕ) → List ℕ × List (List ℕ)
-onto true b s = ([], s .0 ∷ s .1)
-onto false b s = (b ∷ s .0, s .1)
-
--- what stands before the first byte 10 of a file, and what stands between and after the others
-abbrev pub pieces : List ℕ → List ℕ × List (List ℕ)
-pieces [] = ([], [])
-pieces (b ∷ bs) = onto (eqb b 10) b (pieces bs)
 
 -- a row is a line of three fields
 abbrev pub three : Option (List ℕ) → Option Row
