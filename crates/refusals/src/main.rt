@@ -58,7 +58,18 @@ fn try_target(form: &[u32], a: u8, b: u8, c: u8) -> Refusal {
 fn try_question(registers: u32, constants: u32, places: u32, a: u8, b: u8, c: u8) -> Refusal {
     let file = os::open_read(
         &[
-            a, b, c, b'.', b'q', b'u', b'e', b's', b't', b'i', b'o', b'n',
+            a,
+            b,
+            c,
+            b'.',
+            b'q',
+            b'u',
+            b'e',
+            b's',
+            b't',
+            b'i',
+            b'o',
+            b'n',
         ],
     );
     if file < 0 {
@@ -68,9 +79,7 @@ fn try_question(registers: u32, constants: u32, places: u32, a: u8, b: u8, c: u8
     let n = io::read_full(file, &mut bytes);
     libc::close(file);
     let mut rows = [0u32; 96];
-    of_question(
-        questions::read_question(registers, constants, places, &bytes[..n], &mut rows),
-    )
+    of_question(questions::read_question(registers, constants, places, &bytes[..n], &mut rows))
 }
 
 // The table of a case, and then its target or question.
