@@ -50,9 +50,6 @@ abbrev pub overlay : List ℕ → List ℕ → ℕ → List ℕ
 overlay s buffer j = take j s ++ drop j buffer
 
 module _ (s buffer : List ℕ) where
-  pub overlay-length : (j : ℕ) → j ≤ length s → j ≤ length buffer → length (overlay s buffer j) ≡ length buffer
-  overlay-length j h k = omega (arith, length-append (take j s) (drop j buffer), length-take-le j s h, length-drop j buffer)
-
   -- one entry more
   pub overlay-next : (j y : ℕ) → j < length s → j < length buffer → getD s j 0 ≡ y → set (overlay s buffer j) j y ≡ overlay s buffer (j + 1)
   overlay-next j y h k e =
@@ -79,6 +76,9 @@ written-begins s buffer = take-append-seam s (drop (length s) buffer)
 
 pub written-length : (s buffer : List ℕ) → length s ≤ length buffer → length (written s buffer) ≡ length buffer
 written-length s buffer h = omega (arith, length-append s (drop (length s) buffer), length-drop (length s) buffer)
+
+pub written-entry : (s buffer : List ℕ) (i : ℕ) → i < length s → getD (written s buffer) i 0 ≡ getD s i 0
+written-entry s buffer i h = List·getD-append s (drop (length s) buffer) 0 i h
 
 pub begins-entry : (s buffer : List ℕ) (i : ℕ) → Begins s buffer → i < length s → getD buffer i 0 ≡ getD s i 0
 begins-entry s buffer i b h = sym (getD-take (length s) buffer i 0 h) ∙ ap (λ l. getD l i 0) b

@@ -10,9 +10,9 @@ use lib.ListN.{length, getD, take, drop, List·getD-eq-default}
 use lib.Seq.{paste, take-all}
 use Rattle.graphs.proofs.Lists.{row-column}
 use Rattle.classes.specs.Classes.{Legal, lists}
-use Rattle.catalogue.specs.Arrays.{padded}
+use Rattle.catalogue.specs.Arrays.{padded, Begins}
 use Rattle.catalogue.specs.Serving.{labelRows}
-use Rattle.catalogue.proofs.Buffers.{flat-length, flat-row, row-entry, padded-length, padded-entry, overlay, overlay-row}
+use Rattle.catalogue.proofs.Buffers.{flat-length, flat-row, row-entry, padded-length, padded-entry, overlay, overlay-row, begins-entry}
 use Rattle.catalogue.proofs.Complete.{lists-legal, lists-width}
 
 legal-entry : (b : ℕ) (k : List ℕ) (i : ℕ) → Legal b k → getD k i 0 ≤ b + length k
@@ -60,3 +60,8 @@ module _ (r c : ℕ) (h : r ≤ 5) where
       ap (λ q. getD (labelRows r c) q 0) (omega arith) ∙ label-rows-entry k j kb jb in
       omega (arith, f, legal-entry c (getD (lists r c) k []) j legal))
       (λ l. omega (arith, List·getD-eq-default (labelRows r c) 0 {n = i} (omega arith)))
+
+  -- the same of a buffer that has the list at its front
+  pub begins-label : (flat : List ℕ) → Begins (labelRows r c) flat → (k i : ℕ) → k < length (lists r c) → i < 5
+      → getD flat (5 * k + i) 0 ≡ getD (getD (lists r c) k []) i 0
+  begins-label flat b k i l j = begins-entry (labelRows r c) flat (5 * k + i) b (omega (arith, label-rows-length)) ∙ label-rows-entry k i l j

@@ -15,7 +15,7 @@ use lib.Dec.{eqb, leb}
 use lib.ListN.{length, getD, take, drop, length-map, drop-of-length-le}
 use lib.Seq.{paste, drop-cons, length-take-le, getD-take, take-all, take-at, ext-getD}
 use Rattle.graphs.specs.Lists.{upFrom, eqList, table}
-use Rattle.graphs.proofs.Lists.{eqList→eq, getD-map, mem-getD, table-length, table-getD, upFrom-length, upFrom-getD, entry-below, First, first-is}
+use Rattle.graphs.proofs.Lists.{eqList→eq, getD-map, table-length, table-getD, upFrom-length, upFrom-getD, entry-below, First, first-is}
 use Rattle.classes.specs.Classes.{position, labels, Legal, lists}
 use Rattle.classes.specs.Matrix.{cell, matrix, classMatrix, classOfMatrix}
 use Rattle.classes.proofs.Catalogue.{lists-mem}
@@ -226,9 +226,6 @@ module _ (c : ℕ) (k : List ℕ) (small : c ≤ 2) (legal : Legal c k) where
       ∙ ap₂ registerOf (table-getD (cell (upFrom 1 c)) k k i i 0 0 0 l l) (matrix-row (upFrom 1 c) k i l)
       ∙ register-given (getD k i 0) (legal-positive c k legal i l)
       ∙ sym (getD-map given k i 0 0 l))
-
-  positive : (x : ℕ) → List·Memᴰ x k → 1 ≤ x
-  positive x m = let (i, h, e) = mem-getD 0 m in omega (arith, legal-positive c k legal i h)
 
   given-kept : (x y : ℕ) → List·Memᴰ x k → List·Memᴰ y k → given x ≡ given y → x ≡ y
   given-kept x y mx my e = by-cases (decLe x c)

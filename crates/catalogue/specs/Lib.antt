@@ -1,3 +1,4 @@
+-- What the contracts cite.
 pub mod Arrays
 pub mod Catalogue
 pub mod Serving

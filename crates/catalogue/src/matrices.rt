@@ -9,7 +9,7 @@ ghost use lib.Seq.{paste};
 ghost use Rattle.graphs.specs.Lists.{eqList};
 ghost use Rattle.classes.specs.Matrix.{cell, matrix, classMatrix, classOfMatrix};
 ghost use Rattle.catalogue.specs.Arrays.{padded, written};
-ghost use Rattle.catalogue.specs.Matrices.{found, firstEqual, registerOf, valuationOf};
+ghost use Rattle.catalogue.specs.Matrices.{found, firstEqual, valuationOf};
 use crate::Found;
 use crate::numbers::class_of;
 use crate::scan::position_of;

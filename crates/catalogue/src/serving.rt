@@ -1,8 +1,8 @@
 // The lists of every number of registers and constants, served by rows of the catalogue.
 ghost use mathlib.Core.Path.{_≡_};
-ghost use mathlib.Core.List.{[], map};
+ghost use mathlib.Core.List.{[]};
 ghost use Prim.Native.Nat.{_+_, _*_, _-_, _<_, _≤_};
-ghost use lib.ListN.{length, getD, take};
+ghost use lib.ListN.{length, getD};
 ghost use lib.Seq.{paste};
 ghost use Rattle.classes.specs.Classes.{lists};
 ghost use Rattle.catalogue.specs.Arrays.{padded, written, Begins};
