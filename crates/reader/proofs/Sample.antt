@@ -1,12 +1,14 @@
 -- Document 01's sample, read by the definitions: by computation.
 -- Assumes nothing.
-use mathlib.Core.List.{flatMap}
-use mathlib.Core.Path.{_≡_, refl}
-use Rattle.automata.specs.Examples.{sample, loose, delivered, deliveredByOne}
+use mathlib.Core.List.{_++_, flatMap, List·Memᴰ, Memᴰ·append-right}
+use mathlib.Core.Path.{_≡_, refl, subst⁻¹}
+use lib.ListN.{take}
+use Rattle.automata.specs.Examples.{Claim, Means, examples, sample, loose, delivered, deliveredByOne}
+use Rattle.automata.proofs.Examples.{examples-hold}
 use Rattle.fields.specs.Format.{glyphOf}
 use Rattle.reader.specs.Form.{automatonOf, targetOf}
 use Rattle.reader.specs.Rules.{hasTerm, expected, crowded, inRange, inOrder, judgeValues, judgeLine, judge, home, put, advance, complete}
-use Rattle.reader.specs.Sample.{sampleBytes, looseBytes, deliveredBytes, deliveredByOneBytes, sampleForm, looseForm, deliveredForm, deliveredByOneForm}
+use Rattle.reader.specs.Sample.{sampleBytes, looseBytes, deliveredBytes, deliveredByOneBytes, sampleForm, looseForm, deliveredForm, deliveredByOneForm, readExamples}
 use Rattle.reader.specs.Table.{readFile, readTable, readTarget}
 use Rattle.reader.specs.Table.Outcome.{table}
 
@@ -44,3 +46,10 @@ delivered-by-one-read = refl
 pub delivered-by-one-is : targetOf deliveredByOneForm ≡ deliveredByOne
 unfolding targetOf
 delivered-by-one-is = refl
+
+-- so the starred examples of the sample hold of what is read from its lines
+pub read-examples-hold : (c : Claim) → List·Memᴰ c readExamples → Means c
+unfolding automatonOf targetOf
+read-examples-hold c m =
+    let rows : examples ≡ take 7 examples ++ readExamples = refl in
+    examples-hold c (subst⁻¹ (List·Memᴰ c) rows (Memᴰ·append-right (take 7 examples) m))

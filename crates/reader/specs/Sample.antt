@@ -3,6 +3,12 @@
 use Prim.Native.Nat.{ℕ, _+_, _*_}
 use mathlib.Core.List.{List, [], _∷_, _++_, flatMap}
 use lib.ListN.{replicate}
+use Rattle.graphs.specs.Formulas.{AF}
+use Rattle.graphs.specs.Formulas.Formula.{atom, EG}
+use Rattle.automata.specs.Questions.Atom.{at, equal}
+use Rattle.automata.specs.Examples.{Claim, move}
+use Rattle.automata.specs.Examples.Claim.{shortest, never, holds, fails}
+use Rattle.reader.specs.Form.{automatonOf, targetOf}
 use Rattle.fields.specs.Format.{padded}
 
 -- the fields of a line with numbers of one digit, in six columns each, and byte 10
@@ -74,3 +80,13 @@ deliveredForm = without 19 ++ padded (4 ∷ 3 ∷ []) ++ without 904
 
 abbrev pub deliveredByOneForm : List ℕ
 deliveredByOneForm = without 19 ++ padded (4 ∷ 3 ∷ []) ++ padded (5 ∷ 1 ∷ 1 ∷ 1 ∷ 1 ∷ 2 ∷ []) ++ without 903
+
+-- the starred examples of the sample, as claims about the automata and targets that are read from these lines
+abbrev pub readExamples : List Claim
+readExamples =
+    shortest (automatonOf sampleForm) (targetOf deliveredForm) 2 (0 ∷ 0 ∷ []) (move 1 (1 ∷ []) (1 ∷ 0 ∷ []) ∷ move 2 (2 ∷ []) (1 ∷ 2 ∷ []) ∷ [])
+    ∷ never (automatonOf sampleForm) (targetOf deliveredByOneForm)
+    ∷ shortest (automatonOf looseForm) (targetOf deliveredByOneForm) 2 (0 ∷ 0 ∷ []) (move 1 (1 ∷ []) (1 ∷ 0 ∷ []) ∷ move 2 (2 ∷ []) (2 ∷ 2 ∷ []) ∷ [])
+    ∷ fails (automatonOf sampleForm) (EG (atom (equal 1 1)))
+    ∷ holds (automatonOf sampleForm) (AF (atom (at 3)))
+    ∷ []
