@@ -5,8 +5,9 @@ use mathlib.Core.Bool.{Bool, true, false, not, cond}
 use mathlib.Core.List.{List, [], _∷_}
 use mathlib.Core.Path.{_≡_, refl, sym, ap, _∙_}
 use native.Mathlib.Omega.{arith}
-use lib.ListN.{length, drop}
-use lib.Seq.{drop-drop}
+use native.Mathlib.Numerals.{add-one}
+use lib.ListN.{length, getD, drop, drop-of-length-le}
+use lib.Seq.{drop-drop, drop-cons}
 use Rattle.automata.specs.Automaton.{Automaton}
 use Rattle.automata.specs.Runs.{after, initial, transitionOf}
 use Rattle.replay.specs.declared.Step.{Step}
@@ -18,6 +19,10 @@ use Rattle.replay.specs.Progress.{stateOf, begun, stopped, advanced, thr
 -- the steps of a flat list from index i on
 abbrev pub stepsAt : ℕ → List ℕ → List Step
 stepsAt i ns = stepsFrom ((length ns - i) / 9) (drop i ns)
+
+-- what stands for a step past the end of a list
+abbrev pub noStep : Step
+noStep = record { arc = 0; params = []; next = [] }
 
 module _ (a : Automaton) where
   bad-stays : (p : Progress) (n : ℕ) (ss : List Step) → p .bad ≡ true → through a p n ss ≡ p
@@ -81,3 +86,15 @@ module _ (a : Automaton) where
     pub through-end : length ns ≤ i → through a p n (stepsAt i ns) ≡ p
     unfolding through stepsFrom
     through-end l = let e : (length ns - i) / 9 ≡ 0 = omega arith in ap (λ k. through a p n (stepsFrom k (drop i ns))) e
+
+  -- one step more of a list of steps: the step at i is moment i + 1
+
+  module _ (p : Progress) (i : ℕ) (ss : List Step) where
+    pub taken-next : i < length ss → through a (advanced a p (i + 1) (getD ss i noStep)) (i + 1 + 1) (drop (i + 1) ss) ≡ through a p (i + 1) (drop i ss)
+    unfolding through
+    taken-next l =
+        ap (λ (k : ℕ). through a (advanced a p (i + 1) (getD ss i noStep)) (i + 1 + 1) (drop k ss)) (add-one i) ∙ sym (ap (through a p (i + 1)) (drop-cons ss i noStep l))
+
+    pub taken-all : length ss ≤ i → through a p (i + 1) (drop i ss) ≡ p
+    unfolding through
+    taken-all l = ap (through a p (i + 1)) (drop-of-length-le ss l)

@@ -8,7 +8,7 @@ ghost use lib.ListN.{length, getD, take};
 ghost use Rattle.reader.specs.Form.{automatonOf};
 ghost use Rattle.arcs.specs.Readable.{Readable};
 ghost use Rattle.arcs.specs.Slots.{Fits};
-ghost use Rattle.replay.specs.Judge.{restZero, Whole, stepFrom, judgeFlat};
+ghost use Rattle.replay.specs.Judge.{restZero, Whole, stepFrom, judge, judgeFlat};
 ghost use Rattle.replay.specs.Progress.{begun, stopped, advanced, judged, slotValues, assignedSlots, madeBy};
 use arcs::Arc;
 
@@ -247,4 +247,27 @@ pub fn replay(form: &[u32], run: &[u32]) -> Verdict
         i += 9;
     }
     verdict_of(p)
+}
+
+// Judges a run that is lent as steps: each is taken out and handed on by value.
+pub fn replay_steps(form: &[u32], start: [u32; 5], run: &[Step]) -> Verdict
+    requires { ⌜ Readable (now form) ⌝ }
+    ensures { λ r. ⌜ r ≡ judge (automatonOf (now (form .entry))) start (now (run .entry)) ⌝ }
+{
+    let mut p = started(form, start);
+    let mut i = 0;
+    while i < run.len() {
+        let s = run[i];
+        i += 1;
+        p = advance(form, p, i, s);
+    }
+    verdict_of(p)
+}
+
+// The same of the first n of an array of steps by value: whoever calls it holds no reference to a step.
+pub fn replay_few(form: &[u32], start: [u32; 5], run: [Step; 4], n: usize) -> Verdict
+    requires { ⌜ Readable (now form) × (n ≤ 4) ⌝ }
+    ensures { λ r. ⌜ r ≡ judge (automatonOf (now (form .entry))) start (take n run) ⌝ }
+{
+    replay_steps(form, start, &run[..n])
 }
