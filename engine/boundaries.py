@@ -153,6 +153,9 @@ table(small(starting=[SAME] * 8 + [(0, 0, 0, 0, 0)]), 6, 12, "6 before 5 on a li
 table(small(arcs=[(1, 1, 1, [SAME] * 9, [])]), 6, 13, "a ninth arc condition")
 table(small(starting=[SAME] * 8, arcs=[(1, 1, 1, [SAME] * 8, [])]), 0, 0, "start and arc conditions are counted apart")
 table(small(starting=[SAME] * 8)[:-1] + b"\n" + b"     5     1     1     1     1\n", 2, 12, "2 before 6 on a line")
+# 7: no start
+table(small(starting=[(1, 1, 2, 1, 1)]), 7, 0, "a register that differs from itself")
+table(small(registers=0, constants=(1, 2), starting=[(3, 1, 1, 3, 2)]), 7, 0, "two constants that are equal, with no register")
 # targets
 target(lines((4, 3)), why="place 3")
 target(lines((4, 3), (5, 1, 1, 1, 1, 2)), why="place 3 with equal registers")

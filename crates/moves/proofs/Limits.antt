@@ -54,9 +54,9 @@ module _ (a : Automaton) (wf : T (wellFormed a)) (lim : T (limited a)) where
 
   pub limited-roomy : T (roomy 15 a)
   limited-roomy =
-      let r : a .registers ≤ 5 = leb→le (a .registers) 5 (search (and-l, and-r)) in
-      let c : constantCount a ≤ 2 = leb→le (constantCount a) 2 (search (and-l, and-r)) in
-      let few : T (allOf (λ n. leb n 3) (a .arities)) = search (and-l, and-r) in
+      let r : a .registers ≤ 5 = leb→le (a .registers) 5 (search (and-l, and-r) depth 9) in
+      let c : constantCount a ≤ 2 = leb→le (constantCount a) 2 (search (and-l, and-r) depth 9) in
+      let few : T (allOf (λ n. leb n 3) (a .arities)) = search (and-l, and-r) depth 9 in
       and-i (leb (constantCount a + a .registers) 15) (allOf (roomyFor 15 a) (a .transitions)) (le→leb (constantCount a + a .registers) 15 (omega arith)) (all-intro (roomyFor 15 a) (a .transitions) (λ t m.
       and-i (leb (constantCount a + a .registers + arity a t) 15) (leb (constantCount a + a .registers + length (t .assigns)) 15)
       (le→leb (constantCount a + a .registers + arity a t) 15 (omega (arith, getD-le 3 (a .arities) (pred (t .action)) few)))

@@ -9,11 +9,11 @@ use borrow.Author.Tests.{leb-true, eqb-true, eqb-false}
 use native.Mathlib.Omega.{arith}
 use lib.Dec.{leb, ltb, eqb}
 use lib.ListN.{length, replicate, length-replicate}
-use Rattle.fields.specs.Format.{fields, padded}
+use Rattle.fields.specs.Format.{fields, padded, pieces}
 use Rattle.reader.specs.declared.Progress.{Progress}
 use Rattle.reader.specs.Form.{cell}
 use Rattle.reader.specs.Rules.{at, judgeLine, judge, advance, accepted, placed, atStart, beforeTarget, complete}
-use Rattle.reader.specs.Table.{judged, pieces, rowOf, readLines, blankForm, readFile, readTable, readTarget}
+use Rattle.reader.specs.Table.{judged, rowOf, readLines, blankForm, readFile, readTable, readTarget}
 use Rattle.reader.specs.Table.Outcome.{table, refused}
 use Rattle.reader.proofs.Accepted.{Stands, stands, line1, line2, line3, line4, line5, line6, line7, line8}
 use Rattle.reader.proofs.Rows.{Low, low-zeros, row-low}

@@ -9,3 +9,4 @@ pub mod Keeping
 pub mod Legal
 pub mod Present
 pub mod WellFormed
+pub mod Sample

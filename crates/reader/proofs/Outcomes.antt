@@ -1,6 +1,6 @@
 -- The outcome of a whole file, from the reader's state at its end. Assumes nothing.
 use Prim.Native.Nat.{ℕ, _+_, _≤_}
-use mathlib.Core.Path.{_≡_, refl, sym, _∙_}
+use mathlib.Core.Path.{_≡_, refl, sym, _∙_, ap}
 use mathlib.Core.List.{List}
 use mathlib.Core.Bool.{Bool, true, false, cond}
 use native.Mathlib.Omega.{arith}
@@ -10,6 +10,7 @@ use lib.Dec.{eqb}
 use Prim.Native.Nat.{_<_}
 use Rattle.reader.specs.declared.Progress.{Progress}
 use Rattle.reader.specs.declared.Reader.{Reader}
+use Rattle.reader.specs.declared.Reply.{Reply}
 use Rattle.reader.specs.declared.Reply.the-variants.{Accepted, Refused}
 use Rattle.reader.specs.Rules.{complete}
 use Rattle.reader.specs.Table.{Outcome, readFile, blankForm}
@@ -48,3 +49,7 @@ form-refused file (refused a b) t n f l e = refl
 pub accepted-table : (file : ℕ) (o : Outcome) (v : List ℕ) → replyOf file o ≡ Accepted → o ≡ table (formOf o v)
 accepted-table file (table u) v e = refl
 accepted-table file (refused n l) v e = let z : _≡_ {A = ℕ} 0 1 = cc in absurd (omega arith)
+
+-- of a reader's reply r and form u, where the form was v
+pub told : (file : ℕ) (o : Outcome) (r : Reply) (v u : List ℕ) → r ≡ replyOf file o → u ≡ formOf o v → r ≡ Accepted → o ≡ table u
+told file o r v u e f g = accepted-table file o v (sym e ∙ g) ∙ ap table (sym f)

@@ -8,14 +8,14 @@ use mathlib.Core.List.{List, [], _∷_, _++_, append-assoc, append-nil}
 use mathlib.Core.Bool.{Bool, true, false, cond}
 use mathlib.Core.Option.{Option, some, none}
 use lib.Dec.{eqb}
-use Rattle.fields.specs.Format.{fields}
+use Rattle.fields.specs.Format.{fields, onto, pieces}
 use Rattle.fields.specs.Scan.{blank, scan, scans, closed, lineOf}
 use Rattle.fields.specs.declared.Line.{Line}
 use Rattle.fields.proofs.Simulation.{line-run}
 use Rattle.reader.specs.declared.Progress.{Progress}
 use Rattle.reader.specs.declared.Reader.{Reader}
 use Rattle.reader.specs.Rules.{judge, accepted, placed}
-use Rattle.reader.specs.Table.{Outcome, refused, judged, onto, pieces, rowOf, readLines, blankForm}
+use Rattle.reader.specs.Table.{Outcome, refused, judged, rowOf, readLines, blankForm}
 use Rattle.reader.specs.Machine.{begun, judgeRead, afterLine, formAfterLine, fed, wrote, ending, run}
 
 -- nothing follows a refusal

@@ -183,6 +183,14 @@ module _ (t : List ℕ) (n : Legal t) where
       (upFrom-all (λ x. leb (length (x .guard)) 8) (transitionAt t) 0 (cell t 0 5)
       (λ x u v. le→leb (length (transitionAt t x .guard)) 8 (omega (arith, length-map (present t (29 + 14 * x) 8) (conditionAt t), present-few t (29 + 14 * x) 8))))
 
+-- an action has at most three parameters
+pub params-few : (t : List ℕ) → Legal t → (i k q : ℕ) → TransitionRows (cell t 0 1) (cell t 0 2) (cell t 0 3) (cell t 0 4) t i k q → q ≤ 3
+params-few t n i k q s =
+    let a : ℕ = cell t (28 + 14 * i) 2 in
+    let h : Inside (cell t 0 4) a = s .head .action in
+    let e : 3 + (a - 1) ≡ 2 + a = omega arith in
+    subst (λ x. x ≤ 3) (ap (λ x. cell t x 1) e ∙ s .arity) (n .arities (a - 1) (omega arith))
+
 -- what is read as a table is well formed and keeps every limit
 pub table-well-formed : (s t : List ℕ) → readTable s ≡ table t → T (wellFormed (automatonOf t)) × T (limited (automatonOf t))
 table-well-formed s t e = let n = legal s t e in (legal-well-formed t n, legal-limited t n)

@@ -4,3 +4,4 @@ pub mod Rules
 pub mod Table
 pub mod Reply
 pub mod Machine
+pub mod Sample

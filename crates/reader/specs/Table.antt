@@ -1,12 +1,12 @@
 -- What reading a table or a target gives, for every list of bytes. This is what a reader believes.
 -- Assumes nothing.
 use Prim.Native.Nat.{ℕ, _+_}
-use mathlib.Core.Bool.{Bool, true, false, cond}
+use mathlib.Core.Bool.{cond}
 use mathlib.Core.List.{List, [], _∷_}
 use mathlib.Core.Option.{Option, some, none}
 use lib.Dec.{ltb, eqb}
 use lib.ListN.{length, replicate}
-use Rattle.fields.specs.Format.{fields, padded}
+use Rattle.fields.specs.Format.{fields, padded, pieces}
 use Rattle.reader.specs.declared.Progress.{Progress}
 use Rattle.reader.specs.Form.{cell}
 use Rattle.reader.specs.Rules.{judge, accepted, placed, atStart, beforeTarget, complete}
@@ -15,16 +15,6 @@ use Rattle.reader.specs.Rules.{judge, accepted, placed, atStart, beforeT
 pub data Outcome : Type 0 where
   table : List ℕ → Outcome
   refused : ℕ → ℕ → Outcome
-
--- a byte before these pieces of a file: a byte 10 begins a new one
-abbrev pub onto : Bool → ℕ → List ℕ × List (List ℕ) → List ℕ × List (List ℕ)
-onto true b s = ([], s .0 ∷ s .1)
-onto false b s = (b ∷ s .0, s .1)
-
--- what stands before the first byte 10 of a file, and what stands between and after the others
-abbrev pub pieces : List ℕ → List ℕ × List (List ℕ)
-pieces [] = ([], [])
-pieces (b ∷ bs) = onto (eqb b 10) b (pieces bs)
 
 -- what follows a line with the refusal n, or 0
 abbrev pub judged : ℕ → Outcome → ℕ → Outcome

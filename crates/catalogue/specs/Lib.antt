@@ -1,0 +1,6 @@
+-- What the contracts cite.
+pub mod Arrays
+pub mod Catalogue
+pub mod Serving
+pub mod Numbers
+pub mod Matrices

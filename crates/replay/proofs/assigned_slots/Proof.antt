@@ -1,0 +1,61 @@
+-- `replay::assigned_slots` meets its contract: the assignments from i on decide.
+-- Assumes nothing.
+use Prim.Native.Nat.{_-_, _≤_}
+use mathlib.Core.Path.{_≡_, sym, _∙_}
+use native.Mathlib.Omega.{arith}
+use Rattle.replay.specs.Progress.{assignedSlots}
+use Rattle.replay.proofs.Turns.{left, assigned-more, assigned-fails, assigned-done, assigned-start}
+use borrow.Author.Needs.{needs}
+use Rattle.replay.proofs.assigned_slots.Statement.{statement}
+use Rattle.replay.proofs.assigned_slots.Tie as tie
+
+abbrev Inv-loop : tie.InvT-loop
+Inv-loop old new n source target i₀ i = (i ≤ n) × (left old new source target n i ≡ assignedSlots old new n source target)
+
+abbrev μ-loop : tie.MeasureT-loop
+μ-loop old new n source target i₀ i = n - i
+
+loop-holds : tie.Need-loop-holds Inv-loop μ-loop
+loop-holds c = (omega arith, assigned-start _ _ _ _ _)
+
+array-read-assigned : tie.Need-array-read-assigned Inv-loop μ-loop
+array-read-assigned c = search needs
+
+array-read-assigned-2 : tie.Need-array-read-assigned-2 Inv-loop μ-loop
+array-read-assigned-2 c = search needs
+
+assigned-requires : tie.Need-assigned-requires Inv-loop μ-loop
+assigned-requires c κs = let e = c .before .before in let i = c .before .loop .i in (e .pre .1 i, e .pre .2 i)
+
+add-i : tie.Need-add-i Inv-loop μ-loop
+add-i c = search needs
+
+loop-less : tie.Need-loop-less Inv-loop μ-loop
+loop-less c = search needs
+
+loop-again : tie.Need-loop-again Inv-loop μ-loop
+loop-again c =
+    let l = c .before .before .before .loop in
+    (omega arith, assigned-more _ _ _ _ _ (l .i) (omega arith) (sym (c .before .assigned .ensures) ∙ c .if1 .taken) ∙ l .inv .1)
+
+returns : tie.Need-returns Inv-loop μ-loop
+returns c = let l = c .before .before .before .loop in assigned-fails _ _ _ _ _ (l .i) (omega arith) (sym (c .before .assigned .ensures) ∙ c .if1 .left) ∙ l .inv .1
+
+returns-2 : tie.Need-returns-2 Inv-loop μ-loop
+returns-2 c = let l = c .before .loop in assigned-done _ _ _ _ _ (l .i) (c .loop-test .left) ∙ l .inv .1
+
+pub assigned-slots-spec : {M : Type 1} → statement M
+assigned-slots-spec =
+    tie.close
+    (tie.spec
+    Inv-loop
+    μ-loop
+    loop-holds
+    array-read-assigned
+    array-read-assigned-2
+    assigned-requires
+    add-i
+    loop-less
+    loop-again
+    returns
+    returns-2)

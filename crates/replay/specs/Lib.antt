@@ -1,0 +1,3 @@
+-- What the contracts of the replayer cite.
+pub mod Judge
+pub mod Progress
