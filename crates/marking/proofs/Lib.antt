@@ -1,0 +1,2 @@
+-- The lemmas of the packed sets of configurations.
+pub mod Located
