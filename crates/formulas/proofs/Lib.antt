@@ -1,0 +1,5 @@
+-- Laws that the proofs of the functions cite.
+pub mod Words
+pub mod Steps
+pub mod Rounds
+pub mod Tables

@@ -1,0 +1,3 @@
+-- What the contracts of the formulas' rows cite.
+pub mod Rows
+pub mod Machine
