@@ -31,7 +31,7 @@ position-getD (x ∷ xs) zero a h = position-cons-same x x xs refl
 position-getD (x ∷ xs) (suc i) (n, a) h =
     position-cons-other x (getD xs i 0) xs (λ e. absent-getD x xs i n (omega arith) (sym e)) ∙ ap suc (position-getD xs i a (omega arith))
 
-absent-snoc : (d e : ℕ) (xs : List ℕ) → Absent d xs → e ≢ d → Absent d (xs ++ (e ∷ []))
+pub absent-snoc : (d e : ℕ) (xs : List ℕ) → Absent d xs → e ≢ d → Absent d (xs ++ (e ∷ []))
 absent-snoc d e [] a n = (n, tt)
 absent-snoc d e (x ∷ xs) (m, a) n = (m, absent-snoc d e xs a n)
 
@@ -68,14 +68,14 @@ notes-every P seen (d ∷ ds) old new =
 
 -- One identifier
 
-identifier-old : (seen : List ℕ) (x : ℕ) → x ≤ length seen → identifier seen x ≡ item seen x
+pub identifier-old : (seen : List ℕ) (x : ℕ) → x ≤ length seen → identifier seen x ≡ item seen x
 identifier-old seen x h = rw (le-leb x (length seen) h)
 
-identifier-new : (seen : List ℕ) (x : ℕ) → length seen < x → identifier seen x ≡ fresh seen
+pub identifier-new : (seen : List ℕ) (x : ℕ) → length seen < x → identifier seen x ≡ fresh seen
 identifier-new seen x h = rw (lt-leb x (length seen) h)
 
 -- it has the label
-identifier-label : (seen : List ℕ) (x : ℕ) → Distinct seen → 1 ≤ x → x ≤ suc (length seen) → suc (position seen (identifier seen x)) ≡ x
+pub identifier-label : (seen : List ℕ) (x : ℕ) → Distinct seen → 1 ≤ x → x ≤ suc (length seen) → suc (position seen (identifier seen x)) ≡ x
 identifier-label seen x d low high = by-cases (decLe x (length seen))
     (λ h. omega (arith, ap (position seen) (identifier-old seen x h), position-getD seen (pred x) d (omega arith)))
     (λ h. omega (arith, ap (position seen) (identifier-new seen x (omega arith)), fresh-absent seen, position-le seen (fresh seen)))

@@ -3,11 +3,12 @@
 use Prim.Native.Nat.{ℕ, zero, suc, _≤_, _<_, max}
 use mathlib.Core.Bool.{cond}
 use mathlib.Core.List.{List, [], _∷_, _++_, map, List·Memᴰ, flatMap}
+use mathlib.Core.Logic.{_≢_}
 use mathlib.Core.Path.{_≡_}
 use lib.Dec.{eqb, leb, ltb}
 use lib.ListN.{length, getD}
 use Rattle.graphs.specs.Lists.{item, upFrom, eqList, Dictionary}
-use Rattle.classes.specs.Renaming.{SameClass}
+use Rattle.classes.specs.Renaming.{SameClass, Absent}
 
 -- the position of d in xs, counted from 0; length xs where it is not there
 abbrev pub position : List ℕ → ℕ → ℕ
@@ -74,6 +75,19 @@ identifiers seen (x ∷ xs) = identifier seen x ∷ identifiers (noted seen (ide
 -- the contents given back for a class: constants by their labels, and block by block the smallest identifier that is no constant and not yet used
 abbrev pub contents : List ℕ → List ℕ → List ℕ
 contents cs k = identifiers cs k
+
+-- d is no constant, and none of the first i registers of v holds it
+abbrev pub Unused : List ℕ → List ℕ → ℕ → ℕ → Type 0
+Unused cs v i d = Absent d cs × ((j : ℕ) → j < i → getD v j 0 ≢ d)
+
+-- v are the contents that document 01 gives back for the class k: a constant by its label, one identifier for each block, and for the first register of a
+-- block the smallest identifier that is no constant and not yet used
+pub record GivenBack (cs k v : List ℕ) : Type 0 where
+  pub wide : length v ≡ length k
+  pub constants : (i : ℕ) → i < length k → getD k i 0 ≤ length cs → getD v i 0 ≡ item cs (getD k i 0)
+  pub blocks : (i j : ℕ) → i < j → j < length k → getD k i 0 ≡ getD k j 0 → getD v i 0 ≡ getD v j 0
+  pub smallest : (i : ℕ) → i < length k → length cs < getD k i 0 → ((j : ℕ) → j < i → getD k j 0 ≢ getD k i 0)
+      → Unused cs v i (getD v i 0) × ((d : ℕ) → Unused cs v i d → getD v i 0 ≤ d)
 
 -- so many valuations of n registers, one from each class
 pub record Representatives (cs : List ℕ) (n total : ℕ) : Type 0 where

@@ -52,3 +52,13 @@ fields (suc n) (a ∷ b ∷ c ∷ d ∷ e ∷ f ∷ l) = both (field (a ∷ b �
 -- the six numbers of a row: those of a line, then zeros
 abbrev pub padded : List ℕ → List ℕ
 padded fs = fs ++ replicate (6 - length fs) 0
+
+-- a byte before these pieces of a file: a byte 10 begins a new one
+abbrev pub onto : Bool → ℕ → List ℕ × List (List ℕ) → List ℕ × List (List ℕ)
+onto true b s = ([], s .0 ∷ s .1)
+onto false b s = (b ∷ s .0, s .1)
+
+-- what stands before the first byte 10 of a file, and what stands between and after the others
+abbrev pub pieces : List ℕ → List ℕ × List (List ℕ)
+pieces [] = ([], [])
+pieces (b ∷ bs) = onto (eqb b 10) b (pieces bs)

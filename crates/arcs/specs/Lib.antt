@@ -1,0 +1,3 @@
+-- What the contracts of transitions over slots cite.
+pub mod Readable
+pub mod Slots

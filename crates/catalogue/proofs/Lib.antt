@@ -1,0 +1,9 @@
+-- The theorems that other crates cite, and the lemmas of the functions' proofs.
+pub mod Tested
+pub mod Buffers
+pub mod Complete
+pub mod Narrowed
+pub mod LabelRows
+pub mod Scanned
+pub mod Ranked
+pub mod MatrixRows

@@ -1,0 +1,14 @@
+-- `flat::table` meets its contract: the constant is the definition's lists, one after the other. This is the catalogue's one test,
+-- computed entry by entry.
+use mathlib.Core.List.{flatMap}
+use mathlib.Core.Path.{refl}
+use Rattle.catalogue.specs.Catalogue.{catalogue}
+use Rattle.catalogue.proofs.flat.table.Statement.{statement}
+use Rattle.catalogue.proofs.flat.table.Tie as tie
+
+returns : tie.Need-returns
+unfolding flatMap catalogue
+returns c = refl
+
+pub table-spec : {M : Type 1} → statement M
+table-spec = tie.close (tie.spec returns)

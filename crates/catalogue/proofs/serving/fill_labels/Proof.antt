@@ -1,0 +1,77 @@
+-- `serving::fill_labels` meets its contract. The loop's invariant: the labels of the first k classes are written.
+use Prim.Native.Nat.{_*_, _-_, _≤_}
+use mathlib.Core.Path.{_≡_, refl, _∙_}
+use native.Mathlib.Omega.{arith}
+use borrow.Author.Needs.{needs}
+use lib.ListN.{length}
+use Rattle.classes.specs.Classes.{lists}
+use Rattle.catalogue.specs.Serving.{labelRows}
+use Rattle.catalogue.proofs.Buffers.{overlay, overlay-all}
+use Rattle.catalogue.proofs.LabelRows.{label-rows-length, label-rows-more}
+use Rattle.catalogue.proofs.serving.fill_labels.Statement.{statement}
+use Rattle.catalogue.proofs.serving.fill_labels.Tie as tie
+
+abbrev Inv-loop : tie.InvT-loop
+Inv-loop table rows r c flat₀ count k₀ flat k = (k ≤ length (lists r c)) × (length flat ≡ length flat₀) × (flat ≡ overlay (labelRows r c) flat₀ (k * 5))
+
+abbrev μ-loop : tie.MeasureT-loop
+μ-loop table rows r c flat₀ count k₀ flat k = count - k
+
+class-count-requires : tie.Need-class-count-requires Inv-loop μ-loop
+class-count-requires c κs = search needs
+
+loop-holds : tie.Need-loop-holds Inv-loop μ-loop
+loop-holds c = (omega arith, refl, refl)
+
+class-labels-requires : tie.Need-class-labels-requires Inv-loop μ-loop
+class-labels-requires c κs = search needs
+
+mul-store : tie.Need-mul-store Inv-loop μ-loop
+mul-store c = search needs
+
+store-requires : tie.Need-store-requires Inv-loop μ-loop
+store-requires c κs = search needs
+
+add-k : tie.Need-add-k Inv-loop μ-loop
+add-k c = search needs
+
+loop-less : tie.Need-loop-less Inv-loop μ-loop
+loop-less c = search needs
+
+loop-again : tie.Need-loop-again Inv-loop μ-loop
+loop-again c =
+    let a = c .before .before .before .before .before .before .before .before .before .before .before .args in
+    let l = c .before .before .before .before .before .before .loop in
+    let s = c .before .before .store in (
+      omega arith,
+      s .kept .0 ∙ l .inv .1,
+      s .ensures
+          ∙ rw (l .inv .2, c .before .before .before .before .class-labels .ensures)
+          (label-rows-more (a .r) (a .c) (omega arith) (a .flat .now) (l .k) (omega arith) (omega arith)),
+    )
+
+same-length : tie.Need-same-length Inv-loop μ-loop
+same-length c = search needs
+
+returns : tie.Need-returns Inv-loop μ-loop
+returns c =
+    let a = c .before .before .before .before .before .before .args in
+    let l = c .before .loop in
+    l .inv .2 ∙ overlay-all (labelRows (a .r) (a .c)) (a .flat .now) (l .k * 5) (omega (arith, label-rows-length (a .r) (a .c) (omega arith)))
+
+pub fill-labels-spec : {M : Type 1} → statement M
+fill-labels-spec =
+    tie.close
+    (tie.spec
+    Inv-loop
+    μ-loop
+    class-count-requires
+    loop-holds
+    class-labels-requires
+    mul-store
+    store-requires
+    add-k
+    loop-less
+    loop-again
+    same-length
+    returns)

@@ -1,0 +1,5 @@
+pub mod Arrays
+pub mod Catalogue
+pub mod Serving
+pub mod Numbers
+pub mod Matrices

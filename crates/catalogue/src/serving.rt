@@ -1,0 +1,121 @@
+// The lists of every number of registers and constants, served by rows of the catalogue.
+ghost use mathlib.Core.Path.{_≡_};
+ghost use mathlib.Core.List.{[], map};
+ghost use Prim.Native.Nat.{_+_, _*_, _-_, _<_, _≤_};
+ghost use lib.ListN.{length, getD, take};
+ghost use lib.Seq.{paste};
+ghost use Rattle.classes.specs.Classes.{lists};
+ghost use Rattle.catalogue.specs.Arrays.{padded, written, Begins};
+ghost use Rattle.catalogue.specs.Catalogue.{catalogue, row};
+ghost use Rattle.catalogue.specs.Serving.{servesLabel, serves, narrow, servingRows, labelRows};
+use crate::numbers::class_count;
+use crate::numbers::wide16;
+
+// One less, and 0 at 0.
+fn less_one(n: usize) -> usize
+    ensures { λ r. ⌜ r ≡ n - 1 ⌝ }
+{
+    if n == 0 { 0 } else { n - 1 }
+}
+
+// May a label stand where `left` registers are left, of a table with c constants?
+fn label_serves(left: usize, c: u8, x: u8) -> bool
+    ensures { λ r. ⌜ r ≡ servesLabel left c x ⌝ }
+{
+    if left == 0 {
+        return x == 1;
+    }
+    if x <= c {
+        return true;
+    }
+    2 < x
+}
+
+// Does row n of the table serve r registers and c constants?
+fn row_serves(table: &[u8], n: usize, r: usize, c: u8) -> bool
+    requires { ⌜ (n < 674) × (n * 5 + 5 ≤ length (now table)) ⌝ }
+    ensures { λ q. ⌜ q ≡ serves r c (row (now (table .entry)) n) ⌝ }
+{
+    let mut left = r;
+    let mut i = 0;
+    while i < 5 {
+        if !label_serves(left, c, table[n * 5 + i]) {
+            return false;
+        }
+        left = less_one(left);
+        i += 1;
+    }
+    true
+}
+
+// The numbers of the rows that serve r registers and c constants, in order, to the front of `rows`.
+pub fn fill_rows(table: &[u8], r: usize, c: usize, rows: &mut [u16])
+    requires { ⌜ (now table ≡ catalogue) × (r ≤ 5) × (c ≤ 2) × (length (lists r c) ≤ length (now rows)) ⌝ }
+    ensures { λ q. ⌜ now (rows .exit) ≡ written (servingRows r c) (now (rows .entry)) ⌝ }
+{
+    let mut count = 0;
+    let mut n: usize = 0;
+    while n < 674 {
+        if row_serves(table, n, r, c as u8) {
+            rows[count] = n as u16;
+            count += 1;
+        }
+        n += 1;
+    }
+}
+
+// A label of the catalogue, for c constants.
+fn narrowed(c: u8, x: u8) -> u8
+    requires { ⌜ c ≤ 2 ⌝ }
+    ensures { λ r. ⌜ r ≡ narrow c x ⌝ }
+{
+    if x <= c {
+        return x;
+    }
+    let less = 2 - c;
+    if x <= less {
+        return 0;
+    }
+    x - less
+}
+
+// The labels of the class with this number; zeros after them.
+pub fn class_labels(table: &[u8], rows: &[u16], r: usize, c: usize, number: usize) -> [u8; 5]
+    requires { ⌜ (now table ≡ catalogue) × (r ≤ 5) × (c ≤ 2) × Begins (servingRows r c) (now rows) × (number < length (lists r c)) ⌝ }
+    ensures { λ q. ⌜ q ≡ padded (getD (lists r c) number []) ⌝ }
+{
+    let n = wide16(rows[number]);
+    let mut labels = [0u8; 5];
+    let mut i = 0;
+    while i < r {
+        labels[i] = narrowed(c as u8, table[n * 5 + i]);
+        i += 1;
+    }
+    labels
+}
+
+// Five labels, from place `at` on.
+fn store(flat: &mut [u8], at: usize, labels: [u8; 5])
+    requires { ⌜ at + 5 ≤ length (now flat) ⌝ }
+    ensures { λ q. ⌜ now (flat .exit) ≡ paste (now (flat .entry)) at labels 5 ⌝ }
+{
+    let mut j = 0;
+    while j < 5 {
+        flat[at + j] = labels[j];
+        j += 1;
+    }
+}
+
+// The labels of all classes, five to a class, one class after another, to the front of `flat`.
+pub fn fill_labels(table: &[u8], rows: &[u16], r: usize, c: usize, flat: &mut [u8])
+    requires { ⌜ (now table ≡ catalogue) × (r ≤ 5) × (c ≤ 2) × Begins (servingRows r c) (now rows) × (5 * length (lists r c) ≤ length (now flat)) ⌝ }
+    ensures { λ q. ⌜ now (flat .exit) ≡ written (labelRows r c) (now (flat .entry)) ⌝ }
+{
+    let count = class_count(r, c);
+    let mut k = 0;
+    while k < count {
+        let labels = class_labels(table, rows, r, c, k);
+        store(flat, k * 5, labels);
+        k += 1;
+    }
+}

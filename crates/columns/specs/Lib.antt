@@ -1,0 +1,2 @@
+-- What the contracts of printing in columns cite.
+pub mod Columns

@@ -1,0 +1,68 @@
+-- The two questions of document 01's sample, and refused files, read by the definitions. Assumes nothing.
+use Prim.Native.Nat.{ℕ}
+use mathlib.Core.List.{List, [], _∷_, _++_}
+use mathlib.Core.Option.{Option, some, none}
+use mathlib.Core.Path.{_≡_, refl}
+use Rattle.graphs.specs.Formulas.{Formula, AF}
+use Rattle.graphs.specs.Formulas.Formula.{atom, EG}
+use Rattle.automata.specs.Questions.{Atom, question}
+use Rattle.automata.specs.Questions.Atom.{at, equal}
+use Rattle.fields.specs.Format.{glyphOf}
+use Rattle.questions.specs.Rules.{judgeField, judgeRow}
+use Rattle.questions.specs.Form.{put, rowsOf}
+use Rattle.questions.specs.Question.{Outcome, readQuestion}
+use Rattle.questions.specs.Question.Outcome.{rows, refused}
+
+-- the formula that is read
+abbrev pub formulaOf : Outcome → Option (Formula Atom)
+formulaOf (rows t n) = some (question (rowsOf t n))
+formulaOf (refused x l) = none
+
+-- `2 1 1`, `8 1 0`
+pub always : List ℕ
+always = 32 ∷ 32 ∷ 32 ∷ 32 ∷ 32 ∷ 50 ∷ 32 ∷ 32 ∷ 32 ∷ 32 ∷ 32 ∷ 49 ∷ 32 ∷ 32 ∷ 32 ∷ 32 ∷ 32 ∷ 49 ∷ 10 ∷ 32 ∷ 32 ∷ 32 ∷ 32 ∷ 32 ∷ 56 ∷ 32 ∷ 32 ∷ 32 ∷ 32 ∷ 32 ∷ 49 ∷ 32 ∷ 32 ∷ 32 ∷ 32 ∷ 32 ∷ 48 ∷ 10 ∷ []
+
+-- `1 3 0`, `14 1 0`
+pub inevitable : List ℕ
+inevitable = 32 ∷ 32 ∷ 32 ∷ 32 ∷ 32 ∷ 49 ∷ 32 ∷ 32 ∷ 32 ∷ 32 ∷ 32 ∷ 51 ∷ 32 ∷ 32 ∷ 32 ∷ 32 ∷ 32 ∷ 48 ∷ 10 ∷ 32 ∷ 32 ∷ 32 ∷ 32 ∷ 49 ∷ 52 ∷ 32 ∷ 32 ∷ 32 ∷ 32 ∷ 32 ∷ 49 ∷ 32 ∷ 32 ∷ 32 ∷ 32 ∷ 32 ∷ 48 ∷ 10 ∷ []
+
+-- the sample's table has 2 registers, 1 constant and 3 places
+pub always-read : formulaOf (readQuestion 2 1 3 always) ≡ some (EG (atom (equal 1 1)))
+unfolding always glyphOf judgeField judgeRow put readQuestion
+always-read = refl
+
+pub inevitable-read : formulaOf (readQuestion 2 1 3 inevitable) ≡ some (AF (atom (at 3)))
+unfolding inevitable glyphOf judgeField judgeRow put readQuestion
+inevitable-read = refl
+
+-- Refusals
+
+-- an empty file has no line 1
+empty-refused : readQuestion 2 1 3 [] ≡ refused 2 1
+unfolding readQuestion
+empty-refused = refl
+
+-- `4 9 5`: the row that is not there comes before the unused field that is not 0
+forward-refused : readQuestion 2 1 3 (always ++ (32 ∷ 32 ∷ 32 ∷ 32 ∷ 32 ∷ 52 ∷ 32 ∷ 32 ∷ 32 ∷ 32 ∷ 32 ∷ 57 ∷ 32 ∷ 32 ∷ 32 ∷ 32 ∷ 32 ∷ 53 ∷ 10 ∷ [])) ≡ refused 8 3
+unfolding always glyphOf judgeField judgeRow put readQuestion
+forward-refused = refl
+
+-- `4 3 0`: a row does not name itself
+own-refused : readQuestion 2 1 3 (always ++ (32 ∷ 32 ∷ 32 ∷ 32 ∷ 32 ∷ 52 ∷ 32 ∷ 32 ∷ 32 ∷ 32 ∷ 32 ∷ 51 ∷ 32 ∷ 32 ∷ 32 ∷ 32 ∷ 32 ∷ 48 ∷ 10 ∷ [])) ≡ refused 8 3
+unfolding always glyphOf judgeField judgeRow put readQuestion
+own-refused = refl
+
+-- `4 1 5`: an unused field is 0
+unused-refused : readQuestion 2 1 3 (always ++ (32 ∷ 32 ∷ 32 ∷ 32 ∷ 32 ∷ 52 ∷ 32 ∷ 32 ∷ 32 ∷ 32 ∷ 32 ∷ 49 ∷ 32 ∷ 32 ∷ 32 ∷ 32 ∷ 32 ∷ 53 ∷ 10 ∷ [])) ≡ refused 5 3
+unfolding always glyphOf judgeField judgeRow put readQuestion
+unused-refused = refl
+
+-- `15 9 0`: there are fourteen kinds
+kind-refused : readQuestion 2 1 3 (always ++ (32 ∷ 32 ∷ 32 ∷ 32 ∷ 49 ∷ 53 ∷ 32 ∷ 32 ∷ 32 ∷ 32 ∷ 32 ∷ 57 ∷ 32 ∷ 32 ∷ 32 ∷ 32 ∷ 32 ∷ 48 ∷ 10 ∷ [])) ≡ refused 5 3
+unfolding always glyphOf judgeField judgeRow put readQuestion
+kind-refused = refl
+
+-- `4 1 0` without byte 10
+open-refused : readQuestion 2 1 3 (always ++ (32 ∷ 32 ∷ 32 ∷ 32 ∷ 32 ∷ 52 ∷ 32 ∷ 32 ∷ 32 ∷ 32 ∷ 32 ∷ 49 ∷ 32 ∷ 32 ∷ 32 ∷ 32 ∷ 32 ∷ 48 ∷ [])) ≡ refused 2 3
+unfolding always glyphOf judgeField judgeRow put readQuestion
+open-refused = refl

@@ -1,0 +1,51 @@
+-- `questions::put_row` meets its contract. Assumes nothing.
+use Prim.Native.Nat.{ℕ, _+_, _*_}
+use lib.ListN.{set}
+use mathlib.Core.List.{List}
+use mathlib.Core.Path.{_∙_, ap}
+use Rattle.questions.specs.Form.{put}
+use borrow.Author.Needs.{needs}
+use Rattle.questions.proofs.put_row.Statement.{statement}
+use Rattle.questions.proofs.put_row.Tie as tie
+
+mul-i : tie.Need-mul-i
+mul-i c = search needs
+
+store-requires : tie.Need-store-requires
+store-requires c κs = search needs
+
+add-store : tie.Need-add-store
+add-store c = search needs
+
+store-requires-2 : tie.Need-store-requires-2
+store-requires-2 c κs = search needs
+
+add-store-2 : tie.Need-add-store-2
+add-store-2 c = search needs
+
+store-requires-3 : tie.Need-store-requires-3
+store-requires-3 c κs = search needs
+
+same-length : tie.Need-same-length
+same-length c = search needs
+
+returns : tie.Need-returns
+unfolding put
+returns c =
+    let a = c .before .before .before .before .before .before .before .before .before .before .before .before .before .args in
+    c .before .before .store3 .ensures
+    ∙ ap (λ (x : List ℕ). set x (3 * a .n + 2) (a .b)) (c .before .before .before .before .before .before .store2 .ensures
+    ∙ ap (λ (x : List ℕ). set x (3 * a .n + 1) (a .a)) (c .before .before .before .before .before .before .before .before .before .before .store .ensures))
+
+pub put-row-spec : {M : Type 1} → statement M
+put-row-spec =
+    tie.close
+    (tie.spec
+    mul-i
+    store-requires
+    add-store
+    store-requires-2
+    add-store-2
+    store-requires-3
+    same-length
+    returns)

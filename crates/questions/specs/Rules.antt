@@ -1,0 +1,32 @@
+-- The rules for a row of a question: which numbers its fields may have, and the refusal where they do not. This is what a reader believes.
+-- Assumes nothing.
+use Prim.Native.Nat.{ℕ}
+use mathlib.Core.Bool.{cond}
+use lib.Dec.{eqb}
+use Rattle.automata.specs.Questions.{Row, Use, kindOf}
+use Rattle.automata.specs.Questions.Use.{locationNumber, registerNumber, constantNumber, rowNumber, unused}
+use Rattle.automata.specs.WellFormed.{inside}
+use Rattle.questions.specs.declared.Counts.{Counts}
+
+-- the refusal, or 0 where x counts from 1 up to most
+abbrev pub judgeNumber : ℕ → ℕ → ℕ → ℕ
+judgeNumber refusal most x = cond (inside most x) 0 refusal
+
+-- the refusal of a field with the number x, or 0, where n rows stand before: forward (8) of a row, else range (5)
+unfoldable pub judgeField : Counts → ℕ → Use → ℕ → ℕ
+judgeField c n locationNumber x = judgeNumber 5 (c .locations) x
+judgeField c n registerNumber x = judgeNumber 5 (c .registers) x
+judgeField c n constantNumber x = judgeNumber 5 (c .constants) x
+judgeField c n rowNumber x = judgeNumber 8 n x
+judgeField c n unused x = cond (eqb x 0) 0 5
+
+-- of two refusals the first
+abbrev pub firstOf : ℕ → ℕ → ℕ
+firstOf x y = cond (eqb x 0) y x
+
+-- the refusal of a row, or 0, where n rows stand before: its values from left to right
+unfoldable pub judgeRow : Counts → ℕ → Row → ℕ
+judgeRow c n r =
+    cond (inside 14 (r .kind))
+    (firstOf (judgeField c n (kindOf (r .kind) .first) (r .first)) (judgeField c n (kindOf (r .kind) .second) (r .second)))
+    5

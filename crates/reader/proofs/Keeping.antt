@@ -1,0 +1,416 @@
+-- What holds of the progress and the form after every accepted line: the invariants behind `legal`.
+-- Assumes nothing.
+use Prim.Native.Nat.{ℕ, _+_, _*_, _≤_, _<_}
+use mathlib.Core.Bool.{Bool, true, false}
+use mathlib.Core.List.{List}
+use mathlib.Core.Logic.{_≢_, _⊎_, inl, inr}
+use mathlib.Core.Option.{some}
+use mathlib.Core.Path.{_≡_, refl, sym, _∙_, subst}
+use borrow.Author.Count.{below-more}
+use borrow.Author.Tests.{leb-true, leb-false, eqb-true, eqb-false}
+use native.Mathlib.Omega.{arith}
+use lib.Dec.{leb, eqb}
+use lib.ListN.{length}
+use Rattle.reader.specs.declared.Progress.{Progress}
+use Rattle.reader.specs.Form.{cell}
+use Rattle.reader.specs.Rules.{at, home, put, advance, accepted, placed}
+use Rattle.reader.proofs.Accepted.{Inside, Stands, line1, line2, line3, line4, line5, line6, line7, line8}
+use Rattle.reader.proofs.Rows.{rowAt, six, length-put, kept, written, Low, low-put}
+use Rattle.reader.proofs.Shape.{ConditionRow, HeadRow, AssignmentRow, Guarded, TransitionRows}
+
+-- The counters keep to the counts of line 1, and these to their limits
+pub record Counted (p : Progress) : Type 0 where
+  pub registers-low : p .registers ≤ 5
+  pub constants-low : p .constants ≤ 2
+  pub locations-low : p .locations ≤ 16
+  pub actions-low : p .actions ≤ 16
+  pub transitions-low : p .transitions ≤ 64
+  pub ids-low : p .ids ≤ p .constants
+  pub acts-low : p .acts ≤ p .actions
+  pub transition-low : p .transition ≤ p .transitions
+  pub conds-low : p .conds ≤ 8
+  pub none-yet : p .last ≡ 0 → (p .ids ≡ 0) × (p .acts ≡ 0)
+  pub unread : p .last ≤ 4 → p .conds ≡ 0
+  pub early : p .last ≤ 5 → (p .params ≡ 0) × (p .transition ≡ 0)
+  pub late : 6 ≤ p .last → 1 ≤ p .transition
+  pub acted : 4 ≤ p .last → p .actions ≤ p .acts
+
+-- a line 3 that is missing stands before line 4
+pub early-last : (p : Progress) → Counted p → p .acts < p .actions → p .last ≤ 3
+early-last p s h = by (leb 4 (p .last)) refl
+  where
+    by : (b : Bool) → leb 4 (p .last) ≡ b → p .last ≤ 3
+    by true z = absurd (omega (arith, s .acted (leb-true 4 (p .last) z)))
+    by false z = omega (arith, leb-false 4 (p .last) z)
+
+counted-step : (p : Progress) (f : List ℕ) (a : ℕ) → Counted p → Stands p f → Counted (advance p f a)
+unfolding advance
+counted-step p f a s (line1 k l b c d e g) = let z = s .none-yet l in let y = s .early (omega arith) in let x = s .unread (omega arith) in rw k (omega arith)
+counted-step p f a s (line2 k h i j) = let y = s .early (omega arith) in let x = s .unread (omega arith) in rw k (omega arith)
+counted-step p f a s (line3 k h i j) =
+    let z = early-last p s i in let y = s .early (omega arith) in let x = s .unread (omega arith) in rw k (omega arith)
+counted-step p f a s (line4 k h i j) = let y = s .early (omega arith) in let x = s .unread (omega arith) in rw k (omega arith)
+counted-step p f a s (line5 k h i j b c d) = let y = s .early (omega arith) in let x = s .acted h in rw k (omega arith)
+counted-step p f a s (line6 k h i b c d) = let x = s .acted h in rw k (omega arith)
+counted-step p f a s (line7 k h i j b c d) = let y = s .late h in let x = s .acted (omega arith) in rw k (omega arith)
+counted-step p f a s (line8 k h b c) = let y = s .late h in let x = s .acted (omega arith) in rw k (omega arith)
+
+-- What the form holds so far, part by part
+
+-- the constants
+pub record Constants (ids newest last : ℕ) (t : List ℕ) : Type 0 where
+  pub second : ids ≡ 1 → last ≤ 2 → newest ≡ cell t 1 1
+  pub rise : ids ≡ 2 → cell t 1 1 < cell t 2 1
+
+-- the start's conditions, so far
+pub record Starting (r c conds last : ℕ) (t : List ℕ) : Type 0 where
+  pub starts : ℕ
+  pub counts : last ≤ 5 → starts ≡ conds
+  pub starting : Guarded r 0 c t 20 starts
+
+-- the transitions: earlier ones, the one being read, and no line after it
+pub record Moves (r c l m transition params conds last : ℕ) (t : List ℕ) : Type 0 where
+  pub fresh : (x : ℕ) → 28 + 14 * transition ≤ x → cell t x 0 ≡ 0
+  pub done : (i : ℕ) → i + 1 < transition → (n q : ℕ) × TransitionRows r c l m t i n q
+  pub current : (i : ℕ) → i + 1 ≡ transition → (n : ℕ) × TransitionRows r c l m t i n params × (last ≤ 7 → n ≡ conds)
+
+pub record Sound (p : Progress) (t : List ℕ) : Type 0 where
+  pub counted : Counted p
+  pub size : length t ≡ 5544
+  pub low : Low t
+  pub constants : Constants (p .ids) (p .newest) (p .last) t
+  pub arities : (i : ℕ) → i < p .acts → cell t (3 + i) 1 ≤ 3
+  pub start : 4 ≤ p .last → Inside (p .locations) (cell t 19 1)
+  pub starting : Starting (p .registers) (p .constants) (p .conds) (p .last) t
+  pub moves : Moves (p .registers) (p .constants) (p .locations) (p .actions) (p .transition) (p .params) (p .conds) (p .last) t
+
+-- A line that is written
+module _ (t : List ℕ) (row : ℕ) (f : List ℕ) where
+  constants-kept : (ids newest newest′ last last′ : ℕ) → 3 ≤ row → 3 ≤ last′ → Constants ids newest last t → Constants ids newest′ last′ (put t row f)
+  constants-kept ids newest newest′ last last′ h k s =
+      record {
+        second = λ a b. absurd (omega arith);
+        rise = λ a. kept (λ x. cell (put t row f) 1 1 < at x 1) t row f 2 (omega arith) (kept (λ x. at x 1 < cell t 2 1) t row f 1 (omega arith) (s .rise a));
+      }
+
+  arities-kept : (acts : ℕ) → ((i : ℕ) → i < acts → 3 + i ≢ row) → ((i : ℕ) → i < acts → cell t (3 + i) 1 ≤ 3)
+      → (i : ℕ) → i < acts → cell (put t row f) (3 + i) 1 ≤ 3
+  arities-kept acts w s i h = kept (λ x. at x 1 ≤ 3) t row f (3 + i) (w i h) (s i h)
+
+  start-kept : (l last last′ : ℕ) → 19 ≢ row → (4 ≤ last′ → 4 ≤ last) → (4 ≤ last → Inside l (cell t 19 1)) → 4 ≤ last′ → Inside l (cell (put t row f) 19 1)
+  start-kept l last last′ w o s h = kept (λ x. Inside l (at x 1)) t row f 19 w (s (o h))
+
+  guarded-kept : (r q c b n : ℕ) → ((j : ℕ) → j < 8 → b + j ≢ row) → Guarded r q c t b n → Guarded r q c (put t row f) b n
+  guarded-kept r q c b n w s =
+      record {
+        few = s .few;
+        each = λ j h. kept (ConditionRow r q c) t row f (b + j) (w j (omega arith)) (s .each j h);
+        rest = λ j h k. kept (λ x. at x 0 ≡ 0) t row f (b + j) (w j k) (s .rest j h k);
+      }
+
+  -- one condition more
+  guarded-more : (r q c b n : ℕ) → row ≡ b + n → 6 * row + 5 < length t → n < 8 → ConditionRow r q c (six f) → Guarded r q c t b n → Guarded r q c (put t row f) b (n + 1)
+  guarded-more r q c b n e w h new s =
+      record {
+        few = omega arith;
+        each = below-more (λ j. ConditionRow r q c (rowAt (put t row f) (b + j))) n
+            (λ j k. kept (ConditionRow r q c) t row f (b + j) (omega arith) (s .each j k))
+            (subst (λ x. ConditionRow r q c (rowAt (put t row f) x)) e (written t row f w (ConditionRow r q c) new));
+        rest = λ j k u. kept (λ x. at x 0 ≡ 0) t row f (b + j) (omega arith) (s .rest j (omega arith) u);
+      }
+
+  starting-kept : (r c conds conds′ last last′ : ℕ) → ((j : ℕ) → j < 8 → 20 + j ≢ row) → (last′ ≤ 5 → (last ≤ 5) × (conds ≡ conds′))
+      → Starting r c conds last t → Starting r c conds′ last′ (put t row f)
+  starting-kept r c conds conds′ last last′ w o s =
+      record {
+        starts = s .starts;
+        counts = λ h. s .counts (o h .0) ∙ o h .1;
+        starting = guarded-kept r 0 c 20 (s .starts) w (s .starting);
+      }
+
+  -- before the first transition
+  moves-early : (r c l m r′ c′ l′ m′ tr params params′ conds conds′ last last′ : ℕ) → tr ≡ 0 → row < 28
+      → Moves r c l m tr params conds last t → Moves r′ c′ l′ m′ tr params′ conds′ last′ (put t row f)
+  moves-early r c l m r′ c′ l′ m′ tr params params′ conds conds′ last last′ z h s =
+      record {
+        fresh = λ x k. kept (λ y. at y 0 ≡ 0) t row f x (omega arith) (s .fresh x k);
+        done = λ i k. absurd (omega arith);
+        current = λ i k. absurd (omega arith);
+      }
+
+  -- the parts of a transition whose rows, or some of them, stand elsewhere
+  arity-kept : (i m q : ℕ) → m ≤ 16 → 29 + 14 * i ≤ row → Inside m (cell t (28 + 14 * i) 2) → cell t (2 + cell t (28 + 14 * i) 2) 1 ≡ q
+      → cell (put t row f) (2 + cell (put t row f) (28 + 14 * i) 2) 1 ≡ q
+  arity-kept i m q h k a e =
+      kept (λ x. cell (put t row f) (2 + at x 2) 1 ≡ q) t row f (28 + 14 * i) (omega arith)
+      (kept (λ x. at x 1 ≡ q) t row f (2 + cell t (28 + 14 * i) 2) (omega arith) e)
+
+  assigned-kept : (r q c j x : ℕ) → x ≢ row → (cell t x 0 ≡ 0) ⊎ AssignmentRow r q c j (rowAt t x)
+      → (cell (put t row f) x 0 ≡ 0) ⊎ AssignmentRow r q c j (rowAt (put t row f) x)
+  assigned-kept r q c j x w s = kept (λ y. (at y 0 ≡ 0) ⊎ AssignmentRow r q c j y) t row f x w s
+
+  rows-kept : (r c l m i n q : ℕ) → m ≤ 16 → 42 + 14 * i ≤ row → TransitionRows r c l m t i n q → TransitionRows r c l m (put t row f) i n q
+  rows-kept r c l m i n q h w s =
+      record {
+        head = kept (HeadRow l m) t row f (28 + 14 * i) (omega arith) (s .head);
+        arity = arity-kept i m q h (omega arith) (s .head .action) (s .arity);
+        guard = guarded-kept r q c (29 + 14 * i) n (λ j k. omega arith) (s .guard);
+        assigns = λ j k. assigned-kept r q c j (36 + j + 14 * i) (omega arith) (s .assigns j k);
+      }
+
+  -- one condition more of a transition
+  rows-guard : (r c l m i n q : ℕ) → m ≤ 16 → row ≡ 29 + 14 * i + n → 6 * row + 5 < length t → n < 8 → ConditionRow r q c (six f)
+      → TransitionRows r c l m t i n q → TransitionRows r c l m (put t row f) i (n + 1) q
+  rows-guard r c l m i n q h e w k new s =
+      record {
+        head = kept (HeadRow l m) t row f (28 + 14 * i) (omega arith) (s .head);
+        arity = arity-kept i m q h (omega arith) (s .head .action) (s .arity);
+        guard = guarded-more r q c (29 + 14 * i) n e w k new (s .guard);
+        assigns = λ j u. assigned-kept r q c j (36 + j + 14 * i) (omega arith) (s .assigns j u);
+      }
+
+  -- one assignment more of a transition, to register a
+  rows-assign : (r c l m i n q a : ℕ) → m ≤ 16 → row ≡ 36 + a + 14 * i → 6 * row + 5 < length t → 1 ≤ a → AssignmentRow r q c a (six f)
+      → TransitionRows r c l m t i n q → TransitionRows r c l m (put t row f) i n q
+  rows-assign r c l m i n q a h e w k new s =
+      record {
+        head = kept (HeadRow l m) t row f (28 + 14 * i) (omega arith) (s .head);
+        arity = arity-kept i m q h (omega arith) (s .head .action) (s .arity);
+        guard = guarded-kept r q c (29 + 14 * i) n (λ j u. omega arith) (s .guard);
+        assigns = λ j u. by j u (eqb j a) refl;
+      }
+    where
+      by : (j : ℕ) → Inside 5 j → (b : Bool) → eqb j a ≡ b → (cell (put t row f) (36 + j + 14 * i) 0 ≡ 0) ⊎ AssignmentRow r q c j (rowAt (put t row f) (36 + j + 14 * i))
+      by j u true z =
+          let y : j ≡ a = eqb-true j a z in
+          inr (subst (λ x. AssignmentRow r q c x (rowAt (put t row f) (36 + x + 14 * i))) (sym y)
+          (subst (λ x. AssignmentRow r q c a (rowAt (put t row f) x)) e (written t row f w (AssignmentRow r q c a) new)))
+      by j u false z = assigned-kept r q c j (36 + j + 14 * i) (omega (arith, eqb-false j a z)) (s .assigns j u)
+
+  -- a line 6 begins a transition
+  moves-new : (r c l m tr params conds last last′ : ℕ) → m ≤ 16 → row ≡ 28 + 14 * tr → 6 * row + 5 < length t → HeadRow l m (six f)
+      → Moves r c l m tr params conds last t → Moves r c l m (tr + 1) (cell t (2 + at f 2) 1) 0 last′ (put t row f)
+  moves-new r c l m tr params conds last last′ h e w new s =
+      record {
+        fresh = λ x k. kept (λ y. at y 0 ≡ 0) t row f x (omega arith) (s .fresh x (omega arith));
+        done = λ i k. earlier i k;
+        current = λ i k. (0, first i (omega arith), λ u. refl);
+      }
+    where
+      earlier : (i : ℕ) → i + 1 < tr + 1 → (n q : ℕ) × TransitionRows r c l m (put t row f) i n q
+      earlier i k = by (eqb (i + 1) tr) refl
+        where
+          by : (b : Bool) → eqb (i + 1) tr ≡ b → (n q : ℕ) × TransitionRows r c l m (put t row f) i n q
+          by true z = let u = s .current i (eqb-true _ _ z) in (u .0, params, rows-kept r c l m i (u .0) params h (omega arith) (u .1))
+          by false z = let u = s .done i (omega (arith, eqb-false (i + 1) tr z)) in (u .0, u .1, rows-kept r c l m i (u .0) (u .1) h (omega arith) (u .2))
+
+      first : (i : ℕ) → i ≡ tr → TransitionRows r c l m (put t row f) i 0 (cell t (2 + at f 2) 1)
+      first i z =
+          let y : row ≡ 28 + 14 * i = omega arith in
+          record {
+            head = subst (λ x. HeadRow l m (rowAt (put t row f) x)) y (written t row f w (HeadRow l m) new);
+            arity = subst (λ x. cell (put t row f) (2 + cell (put t row f) x 2) 1 ≡ cell t (2 + at f 2) 1) y
+                (written t row f w (λ x. cell (put t row f) (2 + at x 2) 1 ≡ cell t (2 + at f 2) 1)
+                (kept (λ x. at x 1 ≡ cell t (2 + at f 2) 1) t row f (2 + at f 2) (omega (arith, new .action)) refl));
+            guard = record {
+              few = omega arith;
+              each = λ j k. absurd (omega arith);
+              rest = λ j k u. kept (λ x. at x 0 ≡ 0) t row f (29 + 14 * i + j) (omega arith) (s .fresh (29 + 14 * i + j) (omega arith));
+            };
+            assigns = λ j k. inl (kept (λ x. at x 0 ≡ 0) t row f (36 + j + 14 * i) (omega arith) (s .fresh (36 + j + 14 * i) (omega arith)));
+          }
+
+  -- a line 7 or 8 belongs to the transition being read
+  moves-within : (r c l m tr params conds conds′ last last′ : ℕ) → m ≤ 16 → 14 + 14 * tr ≤ row → row < 28 + 14 * tr
+      → ((i n : ℕ) → i + 1 ≡ tr → (last ≤ 7 → n ≡ conds) → TransitionRows r c l m t i n params → (n′ : ℕ) × TransitionRows r c l m (put t row f) i n′ params × (last′ ≤ 7 → n′ ≡ conds′))
+      → Moves r c l m tr params conds last t → Moves r c l m tr params conds′ last′ (put t row f)
+  moves-within r c l m tr params conds conds′ last last′ h v w new s =
+      record {
+        fresh = λ x k. kept (λ y. at y 0 ≡ 0) t row f x (omega arith) (s .fresh x k);
+        done = λ i k. let u = s .done i k in (u .0, u .1, rows-kept r c l m i (u .0) (u .1) h (omega arith) (u .2));
+        current = λ i k. let u = s .current i k in new i (u .0) k (u .2) (u .1);
+      }
+
+-- the parts after an accepted line
+module _ (p : Progress) (f t : List ℕ) (s : Sound p t) where
+  n : Counted p
+  n = s .counted
+
+  constants-step : Stands p f → Constants (accepted p f t .ids) (accepted p f t .newest) (accepted p f t .last) (placed p f t)
+  unfolding advance home
+  constants-step (line1 k l b c d e g) =
+      let z = n .none-yet l in
+      rw k (record { second = λ a b. absurd (omega arith); rise = λ a. absurd (omega arith) })
+  constants-step (line2 k h i j) =
+      let w : 6 * (1 + p .ids) + 5 < length t = omega (arith, s .size, n .constants-low) in
+      rw k
+      (record {
+        second = λ a b. let e : 1 + p .ids ≡ 1 = omega arith in subst (λ x. at f 1 ≡ cell (put t (1 + p .ids) f) x 1) e (written t (1 + p .ids) f w (λ x. at f 1 ≡ at x 1) refl);
+        rise = λ a.
+            let e : 1 + p .ids ≡ 2 = omega arith in
+            subst (λ x. cell (put t (1 + p .ids) f) 1 1 < cell (put t (1 + p .ids) f) x 1) e
+            (written t (1 + p .ids) f w (λ x. cell (put t (1 + p .ids) f) 1 1 < at x 1)
+            (kept (λ x. at x 1 < at f 1) t (1 + p .ids) f 1 (omega arith)
+            (omega (arith, j (omega arith), s .constants .second (omega arith) h))));
+      })
+  constants-step (line3 k h i j) = rw k (constants-kept t (3 + p .acts) f _ _ _ _ _ (omega arith) (omega arith) (s .constants))
+  constants-step (line4 k h i j) = rw k (constants-kept t 19 f _ _ _ _ _ (omega arith) (omega arith) (s .constants))
+  constants-step (line5 k h i j b c d) = rw k (constants-kept t (20 + p .conds) f _ _ _ _ _ (omega arith) (omega arith) (s .constants))
+  constants-step (line6 k h i b c d) = rw k (constants-kept t (28 + 14 * p .transition) f _ _ _ _ _ (omega arith) (omega arith) (s .constants))
+  constants-step (line7 k h i j b c d) = rw k (constants-kept t (15 + 14 * p .transition + p .conds) f _ _ _ _ _ (omega arith) (omega arith) (s .constants))
+  constants-step (line8 k h b c) = rw k (constants-kept t (22 + 14 * p .transition + at f 1) f _ _ _ _ _ (omega arith) (omega arith) (s .constants))
+
+  arities-step : Stands p f → (i : ℕ) → i < accepted p f t .acts → cell (placed p f t) (3 + i) 1 ≤ 3
+  unfolding advance home
+  arities-step (line1 k l b c d e g) = let z = n .none-yet l in rw k (λ i h. absurd (omega arith))
+  arities-step (line2 k h i j) = rw k (arities-kept t (1 + p .ids) f (p .acts) (λ x y. omega (arith, n .constants-low)) (s .arities))
+  arities-step (line3 k h i j) =
+      let w : 6 * (3 + p .acts) + 5 < length t = omega (arith, s .size, n .actions-low) in
+      rw k
+      (below-more (λ x. cell (put t (3 + p .acts) f) (3 + x) 1 ≤ 3) (p .acts)
+      (arities-kept t (3 + p .acts) f (p .acts) (λ x y. omega arith) (s .arities))
+      (written t (3 + p .acts) f w (λ x. at x 1 ≤ 3) j))
+  arities-step (line4 k h i j) = rw k (arities-kept t 19 f (p .acts) (λ x y. omega (arith, n .acts-low, n .actions-low)) (s .arities))
+  arities-step (line5 k h i j b c d) = rw k (arities-kept t (20 + p .conds) f (p .acts) (λ x y. omega (arith, n .acts-low, n .actions-low)) (s .arities))
+  arities-step (line6 k h i b c d) = rw k (arities-kept t (28 + 14 * p .transition) f (p .acts) (λ x y. omega (arith, n .acts-low, n .actions-low)) (s .arities))
+  arities-step (line7 k h i j b c d) = rw k (arities-kept t (15 + 14 * p .transition + p .conds) f (p .acts) (λ x y. omega (arith, n .acts-low, n .actions-low, n .late h)) (s .arities))
+  arities-step (line8 k h b c) = rw k (arities-kept t (22 + 14 * p .transition + at f 1) f (p .acts) (λ x y. omega (arith, n .acts-low, n .actions-low)) (s .arities))
+
+  start-step : Stands p f → 4 ≤ accepted p f t .last → Inside (accepted p f t .locations) (cell (placed p f t) 19 1)
+  unfolding advance home
+  start-step (line1 k l b c d e g) = rw k (λ h. absurd (omega arith))
+  start-step (line2 k h i j) = rw k (λ x. absurd (omega arith))
+  start-step (line3 k h i j) = rw k (λ x. absurd (omega arith))
+  start-step (line4 k h i j) = rw k (λ x. written t 19 f (omega (arith, s .size)) (λ y. Inside (p .locations) (at y 1)) j)
+  start-step (line5 k h i j b c d) = rw k (start-kept t (20 + p .conds) f _ _ 5 (omega arith) (λ x. h) (s .start))
+  start-step (line6 k h i b c d) = rw k (start-kept t (28 + 14 * p .transition) f _ _ 6 (omega arith) (λ x. h) (s .start))
+  start-step (line7 k h i j b c d) = rw k (start-kept t (15 + 14 * p .transition + p .conds) f _ _ 7 (omega (arith, n .late h)) (λ x. omega arith) (s .start))
+  start-step (line8 k h b c) = rw k (start-kept t (22 + 14 * p .transition + at f 1) f _ _ 8 (omega arith) (λ x. omega arith) (s .start))
+
+  starting-step : Stands p f → Starting (accepted p f t .registers) (accepted p f t .constants) (accepted p f t .conds) (accepted p f t .last) (placed p f t)
+  unfolding advance home
+  starting-step (line1 k l b c d e g) =
+      let z = n .unread (omega arith) in
+      let y = s .starting .counts (omega arith) in
+      rw k
+      (record {
+        starts = 0;
+        counts = λ h. omega arith;
+        starting = record {
+          few = omega arith;
+          each = λ i j. absurd (omega arith);
+          rest = λ j h i. kept (λ x. at x 0 ≡ 0) t 0 f (20 + j) (omega arith) (s .starting .starting .rest j (omega arith) i);
+        };
+      })
+  starting-step (line2 k h i j) = rw k (starting-kept t (1 + p .ids) f _ _ _ _ _ 2 (λ x y. omega (arith, n .constants-low)) (λ x. (omega arith, refl)) (s .starting))
+  starting-step (line3 k h i j) = rw k (starting-kept t (3 + p .acts) f _ _ _ _ _ 3 (λ x y. omega (arith, n .actions-low)) (λ x. (omega (arith, early-last p n i), refl)) (s .starting))
+  starting-step (line4 k h i j) = rw k (starting-kept t 19 f _ _ _ _ _ 4 (λ x y. omega arith) (λ x. (omega arith, refl)) (s .starting))
+  starting-step (line5 k h i j b c d) =
+      let e : s .starting .starts ≡ p .conds = s .starting .counts i in
+      let w : 6 * (20 + p .conds) + 5 < length t = omega (arith, s .size) in
+      let z : p .params ≡ 0 = n .early i .0 in
+      rw k
+      (record {
+        starts = s .starting .starts + 1;
+        counts = λ x. omega arith;
+        starting = guarded-more t (20 + p .conds) f _ 0 _ 20 (s .starting .starts) (omega arith) w (omega arith)
+            (record { kind = omega arith; left = rw z at b; relation = c; right = rw z at d }) (s .starting .starting);
+      })
+  starting-step (line6 k h i b c d) = rw k (starting-kept t (28 + 14 * p .transition) f _ _ _ _ _ 6 (λ x y. omega arith) (λ x. absurd (omega arith)) (s .starting))
+  starting-step (line7 k h i j b c d) = rw k (starting-kept t (15 + 14 * p .transition + p .conds) f _ _ _ _ _ 7 (λ x y. omega (arith, n .late h)) (λ x. absurd (omega arith)) (s .starting))
+  starting-step (line8 k h b c) = rw k (starting-kept t (22 + 14 * p .transition + at f 1) f _ _ _ _ _ 8 (λ x y. omega (arith, n .late h)) (λ x. absurd (omega arith)) (s .starting))
+
+  moves-step : Stands p f → Moves (accepted p f t .registers) (accepted p f t .constants) (accepted p f t .locations) (accepted p f t .actions) (accepted p f t .transition) (accepted p f t .params)
+      (accepted p f t .conds) (accepted p f t .last) (placed p f t)
+  unfolding advance home
+  moves-step (line1 k l b c d e g) = rw k (moves-early t 0 f _ _ _ _ _ _ _ _ _ _ _ _ _ _ 1 (n .early (omega arith) .1) (omega arith) (s .moves))
+  moves-step (line2 k h i j) = rw k (moves-early t (1 + p .ids) f _ _ _ _ _ _ _ _ _ _ _ _ _ _ 2 (n .early (omega arith) .1) (omega (arith, n .constants-low)) (s .moves))
+  moves-step (line3 k h i j) = rw k (moves-early t (3 + p .acts) f _ _ _ _ _ _ _ _ _ _ _ _ _ _ 3 (n .early (omega (arith, early-last p n i)) .1) (omega (arith, n .actions-low)) (s .moves))
+  moves-step (line4 k h i j) = rw k (moves-early t 19 f _ _ _ _ _ _ _ _ _ _ _ _ _ _ 4 (n .early (omega arith) .1) (omega arith) (s .moves))
+  moves-step (line5 k h i j b c d) = rw k (moves-early t (20 + p .conds) f _ _ _ _ _ _ _ _ _ _ _ _ _ _ 5 (n .early i .1) (omega arith) (s .moves))
+  moves-step (line6 k h i b c d) =
+      let w : 6 * (28 + 14 * p .transition) + 5 < length t = omega (arith, s .size, n .transitions-low) in
+      rw k (moves-new t (28 + 14 * p .transition) f _ _ _ _ _ _ _ _ 6 (n .actions-low) refl w (record { from = b; action = c; to = d }) (s .moves))
+  moves-step (line7 k h i j b c d) =
+      let a = n .late h in
+      let w : 6 * (15 + 14 * p .transition + p .conds) + 5 < length t = omega (arith, s .size, n .transitions-low, n .transition-low) in
+      rw k
+      (moves-within t (15 + 14 * p .transition + p .conds) f _ _ _ _ _ _ _ _ _ 7 (n .actions-low) (omega arith) (omega arith)
+      (λ x y e g v. let z : y ≡ p .conds = g i in (
+        y + 1,
+        rows-guard t (15 + 14 * p .transition + p .conds) f _ _ _ _ x y _ (n .actions-low) (omega arith) w (omega arith)
+            (record { kind = omega arith; left = b; relation = c; right = d }) v,
+        λ u. omega arith,
+      ))
+      (s .moves))
+  moves-step (line8 k h b c) =
+      let a = n .late h in
+      let w : 6 * (22 + 14 * p .transition + at f 1) + 5 < length t = omega (arith, s .size, n .transitions-low, n .transition-low, n .registers-low) in
+      rw k
+      (moves-within t (22 + 14 * p .transition + at f 1) f _ _ _ _ _ _ _ _ _ 8 (n .actions-low) (omega arith) (omega (arith, n .registers-low))
+      (λ x y e g v. (
+        y,
+        rows-assign t (22 + 14 * p .transition + at f 1) f _ _ _ _ x y _ (at f 1) (n .actions-low) (omega arith) w (b .0)
+            (record { kind = omega arith; register = refl; known = b; source = c }) v,
+        λ u. absurd (omega arith),
+      ))
+      (s .moves))
+
+  pub sound-step : Low f → Stands p f → Sound (accepted p f t) (placed p f t)
+  sound-step l h =
+      record {
+        counted = counted-step p f _ n h;
+        size = length-put t (home p (at f 0) (at f 1)) f ∙ s .size;
+        low = low-put t (home p (at f 0) (at f 1)) f l (s .low);
+        constants = constants-step h;
+        arities = arities-step h;
+        start = start-step h;
+        starting = starting-step h;
+        moves = moves-step h;
+      }
+
+-- the counts of line 1 stand in row 0; where a line 3 was read, there are actions, and all constants were read
+pub record Headed (r c l m n ids last : ℕ) (t : List ℕ) : Type 0 where
+  pub head1 : cell t 0 1 ≡ r
+  pub head2 : cell t 0 2 ≡ c
+  pub head3 : cell t 0 3 ≡ l
+  pub head4 : cell t 0 4 ≡ m
+  pub head5 : cell t 0 5 ≡ n
+  pub passed : 3 ≤ last → (1 ≤ m) × (c ≤ ids)
+
+abbrev pub HeadedBy : Progress → List ℕ → Type 0
+HeadedBy p t = Headed (p .registers) (p .constants) (p .locations) (p .actions) (p .transitions) (p .ids) (p .last) t
+
+headed-kept : (r c l m n ids ids′ last last′ : ℕ) (t : List ℕ) (row : ℕ) (f : List ℕ) → 1 ≤ row
+    → (3 ≤ last′ → (3 ≤ last → (1 ≤ m) × (c ≤ ids)) → (1 ≤ m) × (c ≤ ids′))
+    → Headed r c l m n ids last t → Headed r c l m n ids′ last′ (put t row f)
+headed-kept r c l m n ids ids′ last last′ t row f h k s =
+    record {
+      head1 = kept (λ x. at x 1 ≡ r) t row f 0 (omega arith) (s .head1);
+      head2 = kept (λ x. at x 2 ≡ c) t row f 0 (omega arith) (s .head2);
+      head3 = kept (λ x. at x 3 ≡ l) t row f 0 (omega arith) (s .head3);
+      head4 = kept (λ x. at x 4 ≡ m) t row f 0 (omega arith) (s .head4);
+      head5 = kept (λ x. at x 5 ≡ n) t row f 0 (omega arith) (s .head5);
+      passed = λ u. k u (s .passed);
+    }
+
+pub headed-step : (p : Progress) (f t : List ℕ) → length t ≡ 5544 → HeadedBy p t → Stands p f → HeadedBy (accepted p f t) (placed p f t)
+unfolding advance home
+headed-step p f t z n (line1 k l b c d e g) =
+    let w : 5 < length t = omega arith in
+    rw k
+    (record {
+      head1 = written t 0 f w (λ x. at x 1 ≡ at f 1) refl;
+      head2 = written t 0 f w (λ x. at x 2 ≡ at f 2) refl;
+      head3 = written t 0 f w (λ x. at x 3 ≡ at f 3) refl;
+      head4 = written t 0 f w (λ x. at x 4 ≡ at f 4) refl;
+      head5 = written t 0 f w (λ x. at x 5 ≡ at f 5) refl;
+      passed = λ h. absurd (omega arith);
+    })
+headed-step p f t z n (line2 k h i j) = rw k (headed-kept _ _ _ _ _ _ _ _ 2 t (1 + p .ids) f (omega arith) (λ x y. absurd (omega arith)) n)
+headed-step p f t z n (line3 k h i j) = rw k (headed-kept _ _ _ _ _ _ _ _ 3 t (3 + p .acts) f (omega arith) (λ x y. (omega arith, h)) n)
+headed-step p f t z n (line4 k h i j) = rw k (headed-kept _ _ _ _ _ _ _ _ 4 t 19 f (omega arith) (λ x y. y (omega arith)) n)
+headed-step p f t z n (line5 k h i j b c d) = rw k (headed-kept _ _ _ _ _ _ _ _ 5 t (20 + p .conds) f (omega arith) (λ x y. y (omega arith)) n)
+headed-step p f t z n (line6 k h i b c d) = rw k (headed-kept _ _ _ _ _ _ _ _ 6 t (28 + 14 * p .transition) f (omega arith) (λ x y. y (omega arith)) n)
+headed-step p f t z n (line7 k h i j b c d) = rw k (headed-kept _ _ _ _ _ _ _ _ 7 t (15 + 14 * p .transition + p .conds) f (omega arith) (λ x y. y (omega arith)) n)
+headed-step p f t z n (line8 k h b c) = rw k (headed-kept _ _ _ _ _ _ _ _ 8 t (22 + 14 * p .transition + at f 1) f (omega arith) (λ x y. y (omega arith)) n)

@@ -1,0 +1,177 @@
+-- The form of every table that is read has its shape (`legal`), and so has the form of every target (`legal-target`).
+-- Assumes nothing.
+use Prim.Native.Nat.{ℕ, zero, suc, _+_, _*_, _≤_, _<_}
+use mathlib.Core.Bool.{Bool, true, false, cond, and-eq-true-iff}
+use mathlib.Core.List.{List, [], _∷_}
+use mathlib.Core.Option.{Option, some, none}
+use mathlib.Core.Path.{_≡_, refl, subst}
+use borrow.Author.Tests.{leb-true, eqb-true, eqb-false}
+use native.Mathlib.Omega.{arith}
+use lib.Dec.{leb, ltb, eqb}
+use lib.ListN.{length, replicate, length-replicate}
+use Rattle.fields.specs.Format.{fields, padded, pieces}
+use Rattle.reader.specs.declared.Progress.{Progress}
+use Rattle.reader.specs.Form.{cell}
+use Rattle.reader.specs.Rules.{at, judgeLine, judge, advance, accepted, placed, atStart, beforeTarget, complete}
+use Rattle.reader.specs.Table.{judged, rowOf, readLines, blankForm, readFile, readTable, readTarget}
+use Rattle.reader.specs.Table.Outcome.{table, refused}
+use Rattle.reader.proofs.Accepted.{Stands, stands, line1, line2, line3, line4, line5, line6, line7, line8}
+use Rattle.reader.proofs.Rows.{Low, low-zeros, row-low}
+use Rattle.reader.proofs.Shape.{TransitionRows, Legal, LegalTarget}
+use Rattle.reader.proofs.Keeping.{Counted, Sound, sound-step, HeadedBy, headed-step}
+
+-- What every accepted line keeps holds at the end of a file that is read
+
+no-table : {A : Type 0} (n l : ℕ) (u : List ℕ) → refused n l ≡ table u → A
+no-table n l u e = let z : _≡_ {A = ℕ} 0 1 = cc in absurd (omega arith)
+
+module _ (Q : Progress → List ℕ → Type 0) (step : (p : Progress) (f t : List ℕ) → Low f → Stands p f → Q p t → Q (accepted p f t) (placed p f t)) (u : List ℕ) where
+  at-end : (p : Progress) (t : List ℕ) → Q p t → (k : Bool) → complete p ≡ k → cond k (table t) (refused 2 (p .line + 1)) ≡ table u → (q : Progress) × Q q u × (complete q ≡ true)
+  at-end p t s false c e = no-table 2 (p .line + 1) u e
+  at-end p t s true c e = let same : t ≡ u = cc in (p, subst (Q p) same s, c)
+
+  lines-keep : (ls : List (List ℕ)) (p : Progress) (t l : List ℕ) → Q p t → readLines p t l ls ≡ table u → (q : Progress) × Q q u × (complete q ≡ true)
+  unfolding judge
+  lines-keep [] p t [] s e = at-end p t s (complete p) refl e
+  lines-keep [] p t (b ∷ l) s e = no-table 2 (p .line + 1) u e
+  lines-keep (m ∷ ls) p t l s e = by (fields 6 l) refl e (λ q v. lines-keep ls q v m)
+    where
+      by : (o : Option (List ℕ)) → fields 6 l ≡ o → judged (judge p o) (readLines (accepted p (rowOf o) t) (placed p (rowOf o) t) m ls) (p .line + 1) ≡ table u
+          → ((q : Progress) (v : List ℕ) → Q q v → readLines q v m ls ≡ table u → (r : Progress) × Q r u × (complete r ≡ true)) → (r : Progress) × Q r u × (complete r ≡ true)
+      by none x e rec = no-table 2 (p .line + 1) u e
+      by (some fs) x e rec = go (eqb (judgeLine p (length fs) (padded fs)) 0) refl e
+        where
+          go : (k : Bool) → eqb (judgeLine p (length fs) (padded fs)) 0 ≡ k
+              → cond k (readLines (accepted p (padded fs) t) (placed p (padded fs) t) m ls) (refused (judgeLine p (length fs) (padded fs)) (p .line + 1)) ≡ table u
+              → (r : Progress) × Q r u × (complete r ≡ true)
+          go false z e = no-table _ _ u e
+          go true z e = rec _ _ (step p (padded fs) t (row-low l fs x) (stands p (length fs) (padded fs) (eqb-true _ _ z)) s) e
+
+  file-keeps : (p : Progress) (limit : ℕ) (s : List ℕ) → Q p blankForm → readFile p limit s ≡ table u → (q : Progress) × Q q u × (complete q ≡ true)
+  unfolding readFile
+  file-keeps p limit s h e = go (ltb limit (length s)) e
+    where
+      go : (k : Bool) → cond k (refused 1 0) (readLines p blankForm (pieces s .0) (pieces s .1)) ≡ table u → (q : Progress) × Q q u × (complete q ≡ true)
+      go true e = no-table 1 0 u e
+      go false e = lines-keep (pieces s .1) p blankForm (pieces s .0) h e
+
+completed : (p : Progress) → complete p ≡ true → (4 ≤ p .last) × (p .transitions ≤ p .transition)
+unfolding complete
+completed p c =
+    let h = and-eq-true-iff (leb 4 (p .last)) (leb (p .transitions) (p .transition)) .0 c in
+    (leb-true 4 (p .last) (h .0), leb-true (p .transitions) (p .transition) (h .1))
+
+-- a form with no lines
+zeros : (n i : ℕ) → at (replicate n 0) i ≡ 0
+zeros n i = omega (arith, blank-at n i)
+  where
+    blank-at : (n i : ℕ) → at (replicate n 0) i ≤ 0
+    blank-at zero i = omega arith
+    blank-at (suc n) zero = omega arith
+    blank-at (suc n) (suc i) = blank-at n i
+
+blank-sound : (p : Progress) → Counted p → p .ids ≡ 0 → p .acts ≡ 0 → p .last ≤ 3 → Sound p blankForm
+blank-sound p n a b h =
+    let x = n .unread (omega arith) in
+    let y = n .early (omega arith) in
+    record {
+      counted = n;
+      size = length-replicate {A = ℕ} 5544 0;
+      low = low-zeros 5544;
+      constants = record { second = λ e g. absurd (omega arith); rise = λ e. absurd (omega arith) };
+      arities = λ i k. absurd (omega arith);
+      start = λ k. absurd (omega arith);
+      starting = record {
+        starts = 0;
+        counts = λ k. omega arith;
+        starting = record { few = omega arith; each = λ j k. absurd (omega arith); rest = λ j k l. zeros 5544 (6 * (20 + j) + 0) };
+      };
+      moves = record {
+        fresh = λ z k. zeros 5544 (6 * z + 0);
+        done = λ i k. absurd (omega arith);
+        current = λ i k. absurd (omega arith);
+      };
+    }
+
+-- each transition of a complete table
+transition-rows : (p : Progress) (t : List ℕ) → Sound p t → (i : ℕ) → i < p .transition
+    → (n q : ℕ) × TransitionRows (p .registers) (p .constants) (p .locations) (p .actions) t i n q
+transition-rows p t s i h = by (eqb (i + 1) (p .transition)) refl
+  where
+    by : (b : Bool) → eqb (i + 1) (p .transition) ≡ b → (n q : ℕ) × TransitionRows (p .registers) (p .constants) (p .locations) (p .actions) t i n q
+    by true z = let u = s .moves .current i (eqb-true _ _ z) in (u .0, p .params, u .1)
+    by false z = s .moves .done i (omega (arith, eqb-false (i + 1) (p .transition) z))
+
+legal-end : (p : Progress) (t : List ℕ) → Sound p t → HeadedBy p t → complete p ≡ true → Legal t
+legal-end p t s h c =
+    let n = s .counted in
+    let d = completed p c in
+    let b = s .start (d .0) in
+    record {
+      size = s .size;
+      low = s .low;
+      registers = omega (arith, h .head1, n .registers-low);
+      constants = omega (arith, h .head2, n .constants-low);
+      locations = rw (h .head3) (omega (arith, n .locations-low));
+      actions = rw (h .head4) (omega (arith, n .actions-low, h .passed (omega arith)));
+      transitions = omega (arith, h .head5, n .transitions-low);
+      rise = λ e. s .constants .rise (omega (arith, h .head2, n .ids-low, h .passed (omega arith)));
+      arities = λ i k. s .arities i (omega (arith, h .head4, n .acted (d .0)));
+      start = rw (h .head3) b;
+      starts = s .starting .starts;
+      starting = rw (h .head1, h .head2) (s .starting .starting);
+      moves = λ i k. rw (h .head1, h .head2, h .head3, h .head4) (transition-rows p t s i (omega (arith, h .head5)));
+    }
+
+-- what holds of every table that is read
+pub legal : (s t : List ℕ) → readTable s ≡ table t → Legal t
+legal s t e =
+    let h = file-keeps (λ p u. Sound p u × HeadedBy p u) (λ p f u l k g. (sound-step p f u (g .0) l k, headed-step p f u (g .0 .size) (g .1) k)) t atStart 40000 s
+    (blank-sound atStart (omega arith) refl refl (omega arith), record { head1 = refl; head2 = refl; head3 = refl; head4 = refl; head5 = refl; passed = λ z. absurd (omega arith) }) e in
+    legal-end (h .0) t (h .1 .0) (h .1 .1) (h .2)
+
+-- a target keeps the counts of its table
+record Aimed (r c l : ℕ) (p : Progress) (t : List ℕ) : Type 0 where
+  sound : Sound p t
+  same1 : p .registers ≡ r
+  same2 : p .constants ≡ c
+  same3 : p .locations ≡ l
+  beyond : 3 ≤ p .last
+
+aimed-step : (r c l : ℕ) (p : Progress) (f t : List ℕ) → Low f → Stands p f → Aimed r c l p t → Aimed r c l (accepted p f t) (placed p f t)
+unfolding advance
+aimed-step r c l p f t x h s =
+    let g = same h in
+    record { sound = sound-step p f t (s .sound) x h; same1 = g .0; same2 = g .1; same3 = g .2; beyond = g .3 }
+  where
+    same : Stands p f → (accepted p f t .registers ≡ r) × (accepted p f t .constants ≡ c) × (accepted p f t .locations ≡ l) × (3 ≤ accepted p f t .last)
+    same (line1 k h b c d e g) = absurd (omega (arith, s .beyond))
+    same (line2 k h i j) = absurd (omega (arith, s .beyond))
+    same (line3 k h i j) = rw k (s .same1, s .same2, s .same3, omega arith)
+    same (line4 k h i j) = rw k (s .same1, s .same2, s .same3, omega arith)
+    same (line5 k h i j b c d) = rw k (s .same1, s .same2, s .same3, omega arith)
+    same (line6 k h i b c d) = rw k (s .same1, s .same2, s .same3, omega arith)
+    same (line7 k h i j b c d) = rw k (s .same1, s .same2, s .same3, omega arith)
+    same (line8 k h b c) = rw k (s .same1, s .same2, s .same3, omega arith)
+
+target-end : (r c l : ℕ) (p : Progress) (t : List ℕ) → Sound p t → p .registers ≡ r → p .constants ≡ c → p .locations ≡ l → complete p ≡ true → LegalTarget r c l t
+target-end r c l p t s x y z e =
+    record {
+      size = s .size;
+      low = s .low;
+      location = rw (← z) (s .start (completed p e .0));
+      conditions = s .starting .starts;
+      guard = rw (← x, ← y) (s .starting .starting);
+    }
+
+-- what holds of every target that is read, for a table of these counts
+target-legal : (r c l : ℕ) (s u : List ℕ) → r ≤ 5 → c ≤ 2 → l ≤ 16 → readFile (beforeTarget r c l) 309 s ≡ table u → LegalTarget r c l u
+target-legal r c l s u x y z e =
+    let h = file-keeps (Aimed r c l) (aimed-step r c l) u (beforeTarget r c l) 309 s
+    (record { sound = blank-sound (beforeTarget r c l) (omega arith) refl refl (omega arith); same1 = refl; same2 = refl; same3 = refl; beyond = omega arith }) e in
+    let a = h .1 in
+    target-end r c l (h .0) u (a .sound) (a .same1) (a .same2) (a .same3) (h .2)
+
+-- what holds of every target that is read for the table with the form t
+pub legal-target : (t s u : List ℕ) → Legal t → readTarget t s ≡ table u → LegalTarget (cell t 0 1) (cell t 0 2) (cell t 0 3) u
+legal-target t s u n e = target-legal (cell t 0 1) (cell t 0 2) (cell t 0 3) s u (n .registers) (n .constants) (n .locations .1) e

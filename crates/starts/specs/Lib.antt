@@ -1,0 +1,3 @@
+-- What the contracts of start and target conditions cite.
+pub mod Startable
+pub mod Values

@@ -1,0 +1,2 @@
+-- What the contracts of opening a table cite.
+pub mod Opening

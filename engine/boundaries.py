@@ -1,0 +1,217 @@
+#!/usr/bin/env python3
+"""Writes the boundary cases of reading: for each refusal number of document 01 files at and just past its limit.
+
+boundaries.py DATA STDOUT writes the files NNN.table, NNN.target, NNN.question to the folder DATA, and to the file STDOUT
+what must be printed for them: case, refusal number, file, line, each in six columns (0 0 0 where all is read).
+The expected numbers are written by hand from document 01, beside each case."""
+import os
+import sys
+
+
+def fields(*numbers):
+    return "".join("%6d" % n for n in numbers)
+
+
+def lines(*rows):
+    return "".join(fields(*r) + "\n" for r in rows).encode()
+
+
+SAMPLE = [
+    (1, 2, 1, 3, 2, 2), (2, 0), (3, 1), (3, 1), (4, 1), (5, 1, 1, 1, 3, 1), (5, 1, 2, 1, 3, 1),
+    (6, 1, 1, 2), (7, 2, 1, 2, 3, 1), (8, 1, 2, 1), (8, 2, 3, 1),
+    (6, 2, 2, 3), (7, 2, 1, 2, 1, 1), (7, 2, 1, 2, 3, 1), (8, 1, 1, 1), (8, 2, 2, 1),
+]
+SAMPLE_BYTES = lines(*SAMPLE)
+
+
+def sample(line=None, row=None):
+    """The sample, with its line (from 1) replaced by row; None leaves it out."""
+    rows = list(SAMPLE)
+    if line is not None:
+        if row is None:
+            del rows[line - 1]
+        else:
+            rows[line - 1] = row
+    return lines(*rows)
+
+
+def small(registers=1, constants=(), locations=1, arities=(0,), start=1, starting=(), arcs=()):
+    """A table from its parts; an arc is (from, action, to, conditions, sets)."""
+    rows = [(1, registers, len(constants), locations, len(arities), len(arcs))]
+    rows += [(2, c) for c in constants] + [(3, n) for n in arities] + [(4, start)] + [(5,) + tuple(c) for c in starting]
+    for origin, action, to, conditions, sets in arcs:
+        rows += [(6, origin, action, to)] + [(7,) + tuple(c) for c in conditions] + [(8,) + tuple(s) for s in sets]
+    return lines(*rows)
+
+
+SAME = (1, 1, 1, 1, 1)  # register 1 = register 1
+cases = []
+
+
+def table(data, number=0, line=0, why=""):
+    cases.append((data, None, None, (number, 1 if number else 0, line), why))
+
+
+def target(data, number=0, line=0, why="", table=SAMPLE_BYTES):
+    cases.append((table, data, None, (number, 2 if number else 0, line), why))
+
+
+def question(data, number=0, line=0, why="", table=SAMPLE_BYTES):
+    cases.append((table, None, data, (number, 2 if number else 0, line), why))
+
+
+# what is read
+table(SAMPLE_BYTES, why="the sample")
+table(small(registers=5, constants=(0, 999999), locations=16, arities=(3,) * 16), why="5 registers, 2 constants, 16 places, 16 actions")
+table(small(registers=0, arities=(0,)), why="no register")
+table(small(starting=[SAME] * 8), why="8 start conditions")
+table(small(arcs=[(1, 1, 1, [SAME] * 8, [])]), why="8 arc conditions")
+table(small(arcs=[(1, 1, 1, [], [])] * 64), why="64 arcs")
+table(small(constants=(999999,)), why="six digits that touch the kind's field")
+# 1
+table(b"\n" * 40001, 1, 0, "a byte too many")
+table(b"\n" * 40000, 2, 1, "at the limit the lines are looked at")
+# 2: layout
+table(b"", 2, 1, "an empty file")
+table(b"\n", 2, 1, "a line without fields")
+table(SAMPLE_BYTES[:-1], 2, 16, "no byte 10 at the end")
+table(SAMPLE_BYTES + b"\n", 2, 17, "an empty line after the last")
+table(SAMPLE_BYTES + b" ", 2, 17, "a byte after the last line")
+table(lines(*SAMPLE[:15]), 0, 0, "the last line 8 may be left out")
+table(lines(*SAMPLE[:11]), 2, 12, "too few arcs")
+table(lines(*(SAMPLE + [(6, 1, 1, 1)])), 2, 17, "an arc too many, its values in range")
+table(lines(*(SAMPLE + [(6, 9, 9, 9)])), 2, 17, "an arc too many, its values out of range")
+table(lines(*SAMPLE[:4]), 2, 5, "line 4 is missing at the end")
+table(sample(5), 2, 5, "line 4 is left out")
+table(sample(2), 2, 2, "the constant is left out")
+table(sample(4), 2, 4, "an action is left out")
+table(lines(SAMPLE[0], SAMPLE[0]), 2, 2, "line 1 twice")
+table(lines(SAMPLE[1]), 2, 1, "line 1 does not come first")
+table(lines((9, 1)), 2, 1, "no such kind")
+table(lines((0, 1)), 2, 1, "kind 0")
+table(SAMPLE_BYTES.replace(b"     2     0\n", b"    02     0\n"), 2, 2, "a leading zero")
+table(SAMPLE_BYTES.replace(b"     2     0\n", b"     2    00\n"), 2, 2, "two zeros")
+table(SAMPLE_BYTES.replace(b"     2     0\n", b"     2   0 0\n"), 2, 2, "two numbers in a field")
+table(SAMPLE_BYTES.replace(b"     2     0\n", b"     2\t    0\n"), 2, 2, "a tab")
+table(SAMPLE_BYTES.replace(b"     2     0\n", b"     2    0 \n"), 2, 2, "a number at the left of its field")
+table(SAMPLE_BYTES.replace(b"     2     0\n", b"     2      \n"), 2, 2, "a field of blanks")
+table(SAMPLE_BYTES.replace(b"     2     0\n", b"     2    -1\n"), 2, 2, "a sign")
+table(SAMPLE_BYTES.replace(b"     2     0\n", b"     2     0\r\n"), 2, 2, "byte 13")
+table(SAMPLE_BYTES.replace(b"     2     0\n", b"     2     \x00\n"), 2, 2, "byte 0")
+table(SAMPLE_BYTES.replace(b"     2     0\n", b"     2     0     0\n"), 2, 2, "a field too many")
+table(SAMPLE_BYTES.replace(b"     2     0\n", b"     2\n"), 2, 2, "a field too few")
+table(SAMPLE_BYTES.replace(b"     2     0\n", b"     2    0\n"), 2, 2, "a column too few")
+table(SAMPLE_BYTES.replace(b"     2     0\n", b"     2      0\n"), 2, 2, "a column too many")
+table(SAMPLE_BYTES.replace(b"     2     0\n", b"     21000000\n"), 2, 2, "seven digits")
+table(lines((1, 2, 1, 3, 2, 2, 0)), 2, 1, "seven fields")
+table(lines(*(SAMPLE[:11] + [SAMPLE[8]] + SAMPLE[11:])), 2, 12, "a line 7 after a line 8")
+table(lines(*(SAMPLE[:8] + [SAMPLE[5]] + SAMPLE[8:])), 2, 9, "a line 5 after a line 6")
+# 3: counts
+table(lines((1, 6, 0, 1, 1, 0)), 3, 1, "6 registers")
+table(lines((1, 0, 3, 1, 1, 0)), 3, 1, "3 constants")
+table(lines((1, 0, 0, 0, 1, 0)), 3, 1, "no place")
+table(lines((1, 0, 0, 17, 1, 0)), 3, 1, "17 places")
+table(lines((1, 0, 0, 1, 0, 0)), 3, 1, "no action")
+table(lines((1, 0, 0, 1, 17, 0)), 3, 1, "17 actions")
+table(lines((1, 0, 0, 1, 1, 65)), 3, 1, "65 arcs")
+table(lines((1, 6, 0, 1, 1)), 2, 1, "2 before 3 on a line")
+# 4: order
+table(small(constants=(7, 7)), 4, 3, "equal constants")
+table(small(constants=(7, 6)), 4, 3, "falling constants")
+table(small(constants=(0, 1)), 0, 0, "rising constants from 0")
+table(small(registers=2, arcs=[(1, 1, 1, [], [(1, 1, 1), (1, 1, 1)])]), 4, 6, "equal registers of lines 8")
+table(small(registers=2, arcs=[(1, 1, 1, [], [(2, 1, 1), (1, 1, 1)])]), 4, 6, "falling registers of lines 8")
+table(small(registers=2, arcs=[(1, 1, 1, [], [(2, 1, 1)]), (1, 1, 1, [], [(1, 1, 1)])]), 0, 0, "each arc's registers rise by themselves")
+table(small(registers=2, arcs=[(1, 1, 1, [], [(2, 1, 1), (1, 1, 3)])]), 5, 6, "5 before 4 on a line")
+table(small(registers=2, arcs=[(1, 1, 1, [], [(2, 1, 1), (3, 1, 1)])]), 5, 6, "a register out of range is 5, though it rises")
+# 5: range
+table(small(arities=(3,)), 0, 0, "3 parameters")
+table(small(arities=(4,)), 5, 2, "4 parameters")
+table(small(start=0), 5, 3, "start place 0")
+table(small(start=2), 5, 3, "start place out of range")
+table(small(arcs=[(0, 1, 1, [], [])]), 5, 4, "an arc from place 0")
+table(small(arcs=[(2, 1, 1, [], [])]), 5, 4, "an arc from a place out of range")
+table(small(arcs=[(1, 2, 1, [], [])]), 5, 4, "an action out of range")
+table(small(arcs=[(1, 0, 1, [], [])]), 5, 4, "action 0")
+table(small(arcs=[(1, 1, 2, [], [])]), 5, 4, "an arc to a place out of range")
+table(small(arities=(1,), arcs=[(1, 1, 1, [(2, 1, 1, 2, 1)], [])]), 0, 0, "a parameter of the action")
+table(small(arities=(1,), arcs=[(1, 1, 1, [(2, 2, 1, 2, 1)], [])]), 5, 5, "a parameter out of range")
+table(small(arities=(1, 2), arcs=[(1, 1, 1, [(2, 2, 1, 2, 1)], [])]), 5, 6, "a parameter of another action only")
+table(small(starting=[(2, 1, 1, 1, 1)], arities=(1,)), 5, 4, "a parameter in a start condition")
+table(small(starting=[(0, 1, 1, 1, 1)]), 5, 4, "term kind 0")
+table(small(starting=[(4, 1, 1, 1, 1)]), 5, 4, "term kind 4")
+table(small(starting=[(1, 0, 1, 1, 1)]), 5, 4, "register 0")
+table(small(starting=[(1, 2, 1, 1, 1)]), 5, 4, "a register out of range")
+table(small(starting=[(3, 1, 1, 1, 1)]), 5, 4, "a constant that the table does not have")
+table(small(starting=[(1, 1, 0, 1, 1)]), 5, 4, "relation 0")
+table(small(starting=[(1, 1, 3, 1, 1)]), 5, 4, "relation 3")
+table(small(arcs=[(1, 1, 1, [], [(0, 1, 1)])]), 5, 5, "set register 0")
+table(small(arcs=[(1, 1, 1, [], [(1, 2, 1)])]), 5, 5, "set from a parameter that the action does not have")
+# 6: crowded
+table(small(starting=[SAME] * 9), 6, 12, "a ninth start condition")
+table(small(starting=[SAME] * 8 + [(0, 0, 0, 0, 0)]), 6, 12, "6 before 5 on a line")
+table(small(arcs=[(1, 1, 1, [SAME] * 9, [])]), 6, 13, "a ninth arc condition")
+table(small(starting=[SAME] * 8, arcs=[(1, 1, 1, [SAME] * 8, [])]), 0, 0, "start and arc conditions are counted apart")
+table(small(starting=[SAME] * 8)[:-1] + b"\n" + b"     5     1     1     1     1\n", 2, 12, "2 before 6 on a line")
+# 7: no start
+table(small(starting=[(1, 1, 2, 1, 1)]), 7, 0, "a register that differs from itself")
+table(small(registers=0, constants=(1, 2), starting=[(3, 1, 1, 3, 2)]), 7, 0, "two constants that are equal, with no register")
+# targets
+target(lines((4, 3)), why="place 3")
+target(lines((4, 3), (5, 1, 1, 1, 1, 2)), why="place 3 with equal registers")
+target(lines(*([(4, 3)] + [(5,) + SAME] * 8)), why="8 conditions")
+target(lines(*([(4, 3)] + [(5,) + SAME] * 9)), 1, 0, "nine conditions are too many bytes")
+target(b"\n" * 309, 2, 1, "at the limit the lines are looked at")
+target(b"", 2, 1, "an empty file")
+target(lines((4, 4)), 5, 1, "a place out of range")
+target(lines((4, 0)), 5, 1, "place 0")
+target(lines((5,) + SAME), 2, 1, "no line 4")
+target(lines((4, 3), (4, 3)), 2, 2, "line 4 twice")
+target(lines((4, 3), (5, 2, 1, 1, 1, 1)), 5, 2, "a parameter")
+target(lines((4, 3), (5, 1, 3, 1, 1, 1)), 5, 2, "a register that the table does not have")
+target(lines((4, 3), (6, 1, 1, 2)), 2, 2, "an arc")
+target(lines((4, 3))[:-1], 2, 1, "no byte 10 at the end")
+# questions
+question(lines((1, 3, 0)), why="one row")
+question(lines((2, 1, 1), (8, 1, 0)), why="EG")
+question(lines((1, 3, 0), (14, 1, 0)), why="AF")
+question(lines(*([(1, 1, 0)] * 32)), why="32 rows")
+question(lines(*([(1, 1, 0)] * 33)), 1, 0, "33 rows")
+question(lines(*[(k, 1, b) for k, b in ((1, 0), (2, 2), (3, 1), (4, 0), (5, 2), (6, 0), (7, 2), (8, 0), (9, 2), (10, 2), (11, 0), (12, 0), (13, 0), (14, 0))]), why="every kind")
+question(b"", 2, 1, "an empty file")
+question(lines((1, 3)), 2, 1, "two fields")
+question(lines((1, 3, 0, 0)), 2, 1, "four fields")
+question(lines((1, 3, 0))[:-1], 2, 1, "no byte 10 at the end")
+question(lines((0, 1, 0)), 5, 1, "row kind 0")
+question(lines((15, 1, 0)), 5, 1, "row kind 15")
+question(lines((1, 4, 0)), 5, 1, "a place out of range")
+question(lines((1, 3, 1)), 5, 1, "an unused field that is not 0")
+question(lines((2, 3, 1)), 5, 1, "a register out of range, left")
+question(lines((2, 1, 3)), 5, 1, "a register out of range, right")
+question(lines((3, 1, 2)), 5, 1, "a constant out of range")
+question(lines((4, 0, 0)), 8, 1, "row 0")
+question(lines((4, 1, 0)), 8, 1, "a row that names itself")
+question(lines((1, 1, 0), (4, 3, 0)), 8, 2, "a later row")
+question(lines((4, 9, 5)), 8, 1, "8 before 5: the first bad value decides")
+question(lines((1, 1, 0), (4, 1, 7)), 5, 2, "an unused field of a row that names an earlier one")
+question(lines((1, 1, 0), (5, 1, 2)), 8, 2, "the second row number is not earlier")
+question(lines((1, 1, 0), (5, 2, 999999)), 8, 2, "a row number however large is 8")
+question(lines((15, 9, 9)), 5, 1, "the kind comes first")
+
+
+def main():
+    data, stdout = sys.argv[1:3]
+    os.makedirs(data, exist_ok=True)
+    for name in os.listdir(data):
+        os.remove(os.path.join(data, name))
+    with open(stdout, "w") as out:
+        for i, (t, g, q, expected, why) in enumerate(cases, 1):
+            for kind, content in (("table", t), ("target", g), ("question", q)):
+                if content is not None:
+                    with open(os.path.join(data, "%03d.%s" % (i, kind)), "wb") as f:
+                        f.write(content)
+            out.write(fields(i, *expected) + "\n")
+
+
+if __name__ == "__main__":
+    main()

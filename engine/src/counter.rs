@@ -1,0 +1,147 @@
+//! Tables with long shortest runs: a counter over the classes of one place, the other places
+//! passed one after the other between two counts.
+
+use crate::random::Random;
+use crate::table::{Arc, Condition, Table, Target, Term};
+
+fn same(left: Term, right: Term) -> Condition {
+    Condition {
+        left,
+        equal: true,
+        right,
+    }
+}
+
+fn differ(left: Term, right: Term) -> Condition {
+    Condition {
+        left,
+        equal: false,
+        right,
+    }
+}
+
+const LOW: Term = Term::Constant(1);
+const HIGH: Term = Term::Constant(2);
+const FRESH: Term = Term::Parameter(1);
+
+/// Registers in order of weight: the first is the leading digit.
+struct Digits {
+    order: Vec<usize>,
+}
+
+impl Digits {
+    fn digit(&self, i: usize) -> Term {
+        Term::Register(self.order[i])
+    }
+
+    /// An arc that moves digit i to this value, all lighter digits from high back to low.
+    fn count(&self, i: usize, mut conditions: Vec<Condition>, value: Term) -> Arc {
+        let mut sets = Vec::new();
+        for j in 0..self.order.len() {
+            if j > i {
+                conditions.push(same(self.digit(j), HIGH));
+            }
+            let v = match j.cmp(&i) {
+                std::cmp::Ordering::Less => self.digit(j),
+                std::cmp::Ordering::Equal => value,
+                std::cmp::Ordering::Greater => LOW,
+            };
+            sets.push((self.order[j], v));
+        }
+        sets.sort_by_key(|&(r, _)| r);
+        Arc {
+            from: 1,
+            action: 1,
+            to: 1,
+            conditions,
+            sets,
+        }
+    }
+
+    /// Two values a digit: low, high.
+    fn binary(&self) -> Vec<Arc> {
+        (0..self.order.len())
+            .map(|i| self.count(i, vec![same(self.digit(i), LOW)], HIGH))
+            .collect()
+    }
+
+    /// A digit goes from low to the leading digit's value (where that is no constant), to a
+    /// value of its own, to high; the leading digit from low to some value, to high.
+    fn wide(&self) -> Vec<Arc> {
+        let lead = self.digit(0);
+        let fresh = |mut c: Vec<Condition>| {
+            c.extend([differ(FRESH, LOW), differ(FRESH, HIGH)]);
+            c
+        };
+        let mut arcs = vec![
+            self.count(0, fresh(vec![same(lead, LOW)]), FRESH),
+            self.count(0, vec![differ(lead, LOW), differ(lead, HIGH)], HIGH),
+        ];
+        for i in 1..self.order.len() {
+            let d = self.digit(i);
+            arcs.push(self.count(i, vec![same(d, LOW), differ(lead, LOW), differ(lead, HIGH)], lead));
+            arcs.push(self.count(
+                i,
+                fresh(vec![same(d, lead), differ(lead, HIGH), differ(FRESH, lead)]),
+                FRESH,
+            ));
+            arcs.push(self.count(i, fresh(vec![same(d, LOW), same(lead, HIGH)]), FRESH));
+            arcs.push(self.count(i, vec![differ(d, LOW), differ(d, HIGH), differ(d, lead)], HIGH));
+        }
+        arcs
+    }
+}
+
+/// Steps from all low to all high: for `wide`, with n registers and d further places,
+/// (2 × 3^(n−1) + 4^(n−1) − 1) × (d + 1); for `binary`, (2^n − 1) × (d + 1).
+pub fn counter(random: &mut Random, registers: usize, further: usize, wide: bool) -> (Table, Target) {
+    let mut order: Vec<usize> = (1..=registers).collect();
+    for i in (1..order.len()).rev() {
+        order.swap(i, random.below(i + 1));
+    }
+    let digits = Digits { order };
+    let mut arcs = if wide { digits.wide() } else { digits.binary() };
+    let places = further + 1;
+    if further > 0 {
+        for arc in arcs.iter_mut() {
+            arc.to = 2;
+        }
+    }
+    let keep: Vec<(usize, Term)> = (1..=registers).map(|r| (r, Term::Register(r))).collect();
+    for place in 2..=places {
+        let to = if place == places { 1 } else { place + 1 };
+        arcs.push(Arc {
+            from: place,
+            action: 2,
+            to,
+            conditions: vec![],
+            sets: keep.clone(),
+        });
+    }
+    for i in (1..arcs.len()).rev() {
+        arcs.swap(i, random.below(i + 1));
+    }
+    let low = random.below(20) as u32;
+    let high = low + 1 + random.below(20) as u32;
+    let all = |value: Term| {
+        (1..=registers)
+            .map(|r| same(Term::Register(r), value))
+            .collect::<Vec<_>>()
+    };
+    let table = Table {
+        registers,
+        constants: vec![low, high],
+        places,
+        arity: vec![1, 0],
+        start: 1,
+        start_conditions: all(LOW),
+        arcs,
+    };
+    (
+        table,
+        Target {
+            place: 1,
+            conditions: all(HIGH),
+        },
+    )
+}

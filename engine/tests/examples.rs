@@ -1,0 +1,422 @@
+//! Document 01's sample and all its worked examples, starred and not.
+
+use engine::answer::{ask, reach};
+use engine::class::{class_of_contents, class_of_matrix, contents_of_class, list_of, matrix_of_class, Classes};
+use engine::graph::{Graph, Method};
+use engine::print::{asked, reached, replayed, Form};
+use engine::read::{read_question, read_table, read_target, Refusal};
+use engine::replay::{replay, Replayed};
+
+/// Lines with single spaces, set in columns.
+fn file(lines: &[&str]) -> Vec<u8> {
+    let mut text = String::new();
+    for line in lines {
+        for field in line.split(' ') {
+            text.push_str(&format!("{field:>6}"));
+        }
+        text.push('\n');
+    }
+    text.into_bytes()
+}
+
+const SAMPLE: [&str; 16] = [
+    "1 2 1 3 2 2",
+    "2 0",
+    "3 1",
+    "3 1",
+    "4 1",
+    "5 1 1 1 3 1",
+    "5 1 2 1 3 1",
+    "6 1 1 2",
+    "7 2 1 2 3 1",
+    "8 1 2 1",
+    "8 2 3 1",
+    "6 2 2 3",
+    "7 2 1 2 1 1",
+    "7 2 1 2 3 1",
+    "8 1 1 1",
+    "8 2 2 1",
+];
+
+fn sample() -> Vec<u8> {
+    file(&SAMPLE)
+}
+
+fn refusal(number: u32, file: u32, line: u32) -> Refusal {
+    Refusal { number, file, line }
+}
+
+const METHODS: [Option<Method>; 3] = [None, Some(Method::Pool), Some(Method::Class)];
+
+#[test]
+fn the_printout() {
+    for method in METHODS {
+        let answer = reach(&sample(), &file(&["4 3"]), method);
+        let expected = "     1     2     3\n     0     0     1     0     0\n     1     1     2     1     0     1\n     2     2     3     1     2     2\n";
+        assert_eq!(reached(Form::Fields, &answer), expected);
+        let a = answer.unwrap();
+        assert_eq!(a.words[0], 16_513);
+        assert_eq!(a.words[1..].iter().sum::<u32>(), 0);
+        assert_eq!((a.steps, a.count), (2, 3));
+        assert_eq!(
+            (a.least[0], a.least[7], a.least[14], a.least[1], a.least[10_783]),
+            (0, 1, 2, 65_535, 65_535)
+        );
+        assert_eq!((a.link[0], a.link[7], a.link[14], a.link[1]), (0, 0, 7, 65_535));
+        assert_eq!(
+            a.run,
+            [0, 0, 0, 0, 0, 1, 1, 0, 0, 1, 0, 0, 0, 0, 2, 2, 0, 0, 1, 2, 0, 0, 0]
+        );
+        assert_eq!(replay(&sample(), &a.run), Ok(Replayed::Good));
+    }
+}
+
+#[test]
+fn classes() {
+    assert_eq!(Classes::new(5, &[0, 1]).count(), 674);
+    assert_eq!(Classes::new(5, &[]).count(), 52);
+    assert_eq!(Classes::new(0, &[0, 1]).count(), 1);
+    assert_eq!(list_of(&[0], &[0, 7, 7]), [1, 2, 2]);
+    assert_eq!(class_of_matrix(2, &[0], &[2, 1, 1, 2]), Err(refusal(10, 0, 0)));
+    assert_eq!(class_of_matrix(1, &[], &[0]), Err(refusal(10, 0, 0)));
+    assert_eq!(class_of_matrix(1, &[], &[4]), Err(refusal(10, 0, 0)));
+    assert_eq!(class_of_matrix(0, &[], &[]), Ok(0));
+    assert_eq!(class_of_matrix(usize::MAX, &[], &[0]), Err(refusal(9, 0, 0)));
+    assert_eq!(class_of_matrix(6, &[], &[0; 36]), Err(refusal(3, 0, 0)));
+    assert_eq!(class_of_contents(2, &[5, 5], &[0, 1]), Err(refusal(4, 0, 0)));
+    assert_eq!(contents_of_class(5, &[0, 1], 674), Err(refusal(5, 0, 0)));
+    assert_eq!(contents_of_class(3, &[0, 2], 0), Ok(vec![0, 0, 0]));
+    let classes = Classes::new(5, &[0, 2]);
+    assert!(classes.lists.windows(2).all(|w| w[0] < w[1]));
+    assert_eq!(classes.contents(673), [1, 3, 4, 5, 6]);
+    for k in 0..674 {
+        assert_eq!(classes.number(&classes.contents(k)), k);
+    }
+    for k in 0..12 {
+        let contents = contents_of_class(2, &[0, 2], k);
+        if k == 10 {
+            assert_eq!(contents, Err(refusal(5, 0, 0)));
+            break;
+        }
+        assert_eq!(class_of_contents(2, &[0, 2], &contents.unwrap()), Ok(k));
+        assert_eq!(
+            class_of_matrix(2, &[0, 2], &matrix_of_class(2, &[0, 2], k).unwrap()),
+            Ok(k)
+        );
+    }
+}
+
+#[test]
+fn example_3() {
+    // Three registers, no constants, p1 ≠ p2 and r1 ≠ r2; sets r2, p1, p2.
+    let bytes = file(&[
+        "1 3 0 2 1 1",
+        "3 2",
+        "4 1",
+        "6 1 1 2",
+        "7 1 1 2 1 2",
+        "7 2 1 2 2 2",
+        "8 1 1 2",
+        "8 2 2 1",
+        "8 3 2 2",
+    ]);
+    let table = read_table(&bytes).unwrap();
+    for method in [Method::Pool, Method::Class] {
+        let graph = Graph::new(&table, method);
+        let from = graph.classes.number(&[1, 2, 2]);
+        for node in (0..graph.nodes()).filter(|&n| graph.configuration[n] == from) {
+            let mut lists: Vec<Vec<u32>> = graph
+                .successors(node)
+                .iter()
+                .map(|&m| {
+                    assert_eq!(graph.place[m as usize], 2);
+                    graph.classes.lists[graph.configuration[m as usize] % graph.classes.count()].clone()
+                })
+                .collect();
+            lists.sort();
+            lists.dedup();
+            assert_eq!(lists, [[1, 1, 2], [1, 2, 1], [1, 2, 3]]);
+        }
+    }
+}
+
+#[test]
+fn equal_registers() {
+    for method in METHODS {
+        let never = reach(&sample(), &file(&["4 3", "5 1 1 1 1 2"]), method);
+        assert_eq!(reached(Form::Fields, &never), "     0     0     3\n");
+        assert!(never.unwrap().run.is_empty());
+        let shorter: Vec<&str> = SAMPLE.iter().copied().filter(|&l| l != "8 1 1 1").collect();
+        let two = reach(&file(&shorter), &file(&["4 3", "5 1 1 1 1 2"]), method).unwrap();
+        assert_eq!((two.reached, two.steps), (true, 2));
+        assert_eq!(two.moments[2].contents[..2], [2, 2]);
+    }
+}
+
+#[test]
+fn questions() {
+    for method in METHODS {
+        let no = ask(&sample(), &file(&["2 1 1", "8 1 0"]), method);
+        assert_eq!(asked(Form::Fields, &no), "     0     0     0     0\n");
+        let yes = ask(&sample(), &file(&["1 3 0", "14 1 0"]), method);
+        assert_eq!(asked(Form::Fields, &yes), "     1\n");
+        let rows = yes.unwrap().rows;
+        // Place 3 is configurations 10 to 14.
+        assert_eq!(rows[0], 0b11111 << 10);
+        assert_eq!(rows.len(), 32 * 337);
+    }
+}
+
+#[test]
+fn habits() {
+    // One register holding 5, constant 0, condition register = constant: no step.
+    let table = file(&[
+        "1 1 1 2 1 1",
+        "2 0",
+        "3 0",
+        "4 1",
+        "5 1 1 2 3 1",
+        "6 1 1 2",
+        "7 1 1 1 3 1",
+    ]);
+    let answer = reach(&table, &file(&["4 2"]), None).unwrap();
+    assert_eq!((answer.reached, answer.count), (false, 1));
+    // A register that is not set may hold anything; EG fails where nothing follows, AX holds.
+    let table = file(&["1 1 1 2 1 1", "2 0", "3 0", "4 1", "5 1 1 1 3 1", "6 1 1 2"]);
+    let answer = reach(&table, &file(&["4 2", "5 1 1 2 3 1"]), None);
+    assert_eq!(
+        reached(Form::Fields, &answer),
+        "     1     1     3\n     0     0     1     0\n     1     1     2     1\n"
+    );
+    assert_eq!(
+        asked(Form::Fields, &ask(&table, &file(&["1 2 0", "8 1 0", "4 2 0"]), None)),
+        "     1\n"
+    );
+    assert_eq!(
+        asked(Form::Fields, &ask(&table, &file(&["1 1 0", "11 1 0"]), None)),
+        "     0     0     0\n"
+    );
+    assert_eq!(
+        asked(Form::Fields, &ask(&table, &file(&["1 1 0", "11 1 0", "11 2 0"]), None)),
+        "     1\n"
+    );
+}
+
+#[test]
+fn limits() {
+    // 5 registers pass, 6 are 3.
+    assert!(read_table(&file(&["1 5 0 1 1 0", "3 0", "4 1"])).is_ok());
+    assert_eq!(
+        read_table(&file(&["1 6 0 1 1 0", "3 0", "4 1"])).unwrap_err(),
+        refusal(3, 1, 1)
+    );
+    // 8 conditions pass, 9 are 6; the ninth with a wrong value too, with a wrong layout 2.
+    let start = ["1 1 0 1 1 0", "3 0", "4 1"];
+    let eight: Vec<&str> = start.iter().copied().chain(["5 1 1 1 1 1"; 8]).collect();
+    assert!(read_table(&file(&eight)).is_ok());
+    for (ninth, number) in [
+        ("5 1 1 1 1 1", 6),
+        ("5 9 9 9 9 9", 6),
+        ("5 1 1 1 1", 2),
+        ("5 1 1 1 1 01", 2),
+    ] {
+        let lines: Vec<&str> = eight.iter().copied().chain([ninth]).collect();
+        assert_eq!(read_table(&file(&lines)).unwrap_err(), refusal(number, 1, 12));
+    }
+    let arc: Vec<&str> = ["1 1 0 1 1 1", "3 1", "4 1", "6 1 1 1"]
+        .into_iter()
+        .chain(["7 1 1 1 2 1"; 9])
+        .collect();
+    assert!(read_table(&file(&arc[..12])).is_ok());
+    assert_eq!(read_table(&file(&arc)).unwrap_err(), refusal(6, 1, 13));
+    // In a target 9 conditions are 1; 32 rows pass, 33 are 1.
+    let table = read_table(&sample()).unwrap();
+    let target: Vec<&str> = ["4 1"].into_iter().chain(["5 1 1 1 1 1"; 9]).collect();
+    assert!(read_target(&table, &file(&target[..9])).is_ok());
+    assert_eq!(read_target(&table, &file(&target)).unwrap_err(), refusal(1, 2, 0));
+    assert!(read_question(&table, &file(&["1 1 0"; 32])).is_ok());
+    assert_eq!(
+        read_question(&table, &file(&["1 1 0"; 33])).unwrap_err(),
+        refusal(1, 2, 0)
+    );
+    // A run of 0 steps.
+    let none = reach(&sample(), &file(&["4 1"]), None);
+    assert_eq!(
+        reached(Form::Fields, &none),
+        "     1     0     3\n     0     0     1     0     0\n"
+    );
+    assert_eq!(none.unwrap().run, [0; 5]);
+}
+
+#[test]
+fn refusals_of_tables() {
+    let cases: [(&[&str], Refusal); 33] = [
+        (&[], refusal(2, 1, 1)),
+        (&["1 0 0 1 1 0"], refusal(2, 1, 2)),
+        (&["1 0 0 1 1 0", "3 0"], refusal(2, 1, 3)),
+        (&["2 0 0 1 1 0"], refusal(2, 1, 1)),
+        (&["1 0 3 0 1 0"], refusal(3, 1, 1)),
+        (&["1 0 0 0 1 0"], refusal(3, 1, 1)),
+        (&["1 0 0 17 1 0"], refusal(3, 1, 1)),
+        (&["1 0 0 1 0 0"], refusal(3, 1, 1)),
+        (&["1 0 0 1 1 65"], refusal(3, 1, 1)),
+        (&["1 0 2 1 1 0", "2 1", "2 1"], refusal(4, 1, 3)),
+        (&["1 0 2 1 1 0", "2 1", "2 0"], refusal(4, 1, 3)),
+        (&["1 0 2 1 1 0", "2 1", "3 0"], refusal(2, 1, 3)),
+        (&["1 0 0 1 1 0", "3 4", "4 9"], refusal(5, 1, 2)),
+        (&["1 0 0 1 1 0", "3 0", "4 0"], refusal(5, 1, 3)),
+        (&["1 0 0 1 1 0", "3 0", "4 2"], refusal(5, 1, 3)),
+        (&["1 0 0 1 1 0", "3 0", "4 1", "4 1"], refusal(2, 1, 4)),
+        (&["1 1 0 1 1 0", "3 3", "4 1", "5 2 1 1 1 1"], refusal(5, 1, 4)),
+        (&["1 1 0 1 1 0", "3 3", "4 1", "5 1 2 1 1 1"], refusal(5, 1, 4)),
+        (&["1 1 0 1 1 0", "3 3", "4 1", "5 1 1 3 1 1"], refusal(5, 1, 4)),
+        (&["1 1 0 1 1 0", "3 3", "4 1", "5 1 1 0 1 1"], refusal(5, 1, 4)),
+        (&["1 1 0 1 1 0", "3 3", "4 1", "5 1 1 1 3 1"], refusal(5, 1, 4)),
+        (&["1 1 0 1 1 0", "3 3", "4 1", "5 1 1 2 1 1"], refusal(7, 1, 0)),
+        (&["1 0 1 1 1 0", "2 7", "3 3", "4 1", "5 3 1 2 3 1"], refusal(7, 1, 0)),
+        (&["1 1 0 1 1 0", "3 3", "4 1", "6 1 1 1"], refusal(2, 1, 4)),
+        (&["1 1 0 1 1 1", "3 3", "4 1"], refusal(2, 1, 4)),
+        (&["1 1 0 1 1 1", "3 3", "4 1", "6 2 9 9"], refusal(5, 1, 4)),
+        (
+            &["1 1 0 1 1 1", "3 3", "4 1", "6 1 1 1", "5 1 1 1 1 1"],
+            refusal(2, 1, 5),
+        ),
+        (
+            &["1 1 0 1 1 1", "3 1", "4 1", "6 1 1 1", "7 2 2 1 1 1"],
+            refusal(5, 1, 5),
+        ),
+        (
+            &["1 1 0 1 1 1", "3 1", "4 1", "6 1 1 1", "8 1 1 1", "7 2 1 1 1 1"],
+            refusal(2, 1, 6),
+        ),
+        (
+            &["1 1 0 1 1 1", "3 1", "4 1", "6 1 1 1", "8 1 1 1", "8 1 2 2"],
+            refusal(5, 1, 6),
+        ),
+        (
+            &["1 1 0 1 1 1", "3 1", "4 1", "6 1 1 1", "8 1 1 1", "8 1 2 1"],
+            refusal(4, 1, 6),
+        ),
+        (
+            &["1 2 0 1 1 1", "3 1", "4 1", "6 1 1 1", "8 2 1 1", "8 1 2 1"],
+            refusal(4, 1, 6),
+        ),
+        (
+            &["1 2 0 1 1 1", "3 1", "4 1", "6 1 1 1", "8 0 1 1", "8 1 2 1"],
+            refusal(5, 1, 5),
+        ),
+    ];
+    for (lines, expected) in cases {
+        assert_eq!(read_table(&file(lines)).unwrap_err(), expected, "{lines:?}");
+    }
+}
+
+#[test]
+fn layout() {
+    let good = file(&["1 0 0 1 1 0", "3 0", "4 1"]);
+    assert!(read_table(&good).is_ok());
+    let line = |l| Err(refusal(2, 1, l));
+    let changed = |at: usize, byte: u8| {
+        let mut bytes = good.clone();
+        bytes[at] = byte;
+        read_table(&bytes).map(|_| ())
+    };
+    for byte in [0, 9, 13, b'+', b'-', b'0', b'x', 0xff] {
+        assert_eq!(changed(4, byte), line(1));
+        assert_eq!(changed(36 + 1 + 6, byte), line(2));
+    }
+    assert_eq!(changed(36, b' '), line(1));
+    let ending = |extra: &[u8]| {
+        let mut bytes = good.clone();
+        bytes.extend(extra);
+        read_table(&bytes).map(|_| ())
+    };
+    assert_eq!(read_table(&good[..good.len() - 1]).map(|_| ()), line(3));
+    assert_eq!(ending(b"\n"), line(4));
+    assert_eq!(ending(b" "), line(4));
+    assert_eq!(ending(&vec![b' '; 40_000 - good.len()]), line(4));
+    assert_eq!(ending(&vec![b' '; 40_001 - good.len()]), Err(refusal(1, 1, 0)));
+    // Adjacent six-digit numbers need no space between them.
+    let wide = b"     1     0     2     1     1     0\n     2999998\n     2999999\n     3     0\n     4     1\n";
+    assert_eq!(read_table(wide).unwrap().constants, [999_998, 999_999]);
+}
+
+#[test]
+fn refusals_of_the_other_file() {
+    let table = read_table(&sample()).unwrap();
+    let question: [(&[&str], Refusal); 14] = [
+        (&[], refusal(2, 2, 1)),
+        (&["1 1"], refusal(2, 2, 1)),
+        (&["1 1 0 0"], refusal(2, 2, 1)),
+        (&["0 1 0"], refusal(5, 2, 1)),
+        (&["15 1 0"], refusal(5, 2, 1)),
+        (&["1 4 0"], refusal(5, 2, 1)),
+        (&["1 1 1"], refusal(5, 2, 1)),
+        (&["2 1 3"], refusal(5, 2, 1)),
+        (&["3 1 2"], refusal(5, 2, 1)),
+        (&["4 9 5"], refusal(8, 2, 1)),
+        (&["1 1 0", "4 1 5"], refusal(5, 2, 2)),
+        (&["1 1 0", "5 1 2"], refusal(8, 2, 2)),
+        (&["1 1 0", "5 0 9"], refusal(8, 2, 2)),
+        (&["1 1 0", "8 1 0", "14 999999 0"], refusal(8, 2, 3)),
+    ];
+    for (lines, expected) in question {
+        assert_eq!(read_question(&table, &file(lines)).unwrap_err(), expected, "{lines:?}");
+    }
+    let target: [(&[&str], Refusal); 6] = [
+        (&[], refusal(2, 2, 1)),
+        (&["4 4"], refusal(5, 2, 1)),
+        (&["5 1 1 1 1 1"], refusal(2, 2, 1)),
+        (&["4 3", "4 3"], refusal(2, 2, 2)),
+        (&["4 3", "5 2 1 1 1 1"], refusal(5, 2, 2)),
+        (&["4 3", "5 1 1 1 3 2"], refusal(5, 2, 2)),
+    ];
+    for (lines, expected) in target {
+        assert_eq!(read_target(&table, &file(lines)).unwrap_err(), expected, "{lines:?}");
+    }
+    // A target that no contents meet is not refused.
+    let never = reach(&sample(), &file(&["4 3", "5 1 1 2 1 1"]), None);
+    assert_eq!(reached(Form::Fields, &never), "     0     0     3\n");
+    // The table's refusals, 7 among them, come before the other file's 1.
+    let bad = file(&["1 1 0 1 1 0", "3 3", "4 1", "5 1 1 2 1 1"]);
+    assert_eq!(
+        reached(Form::Fields, &reach(&bad, &[b'x'; 999], None)),
+        "     2     7     1     0\n"
+    );
+    assert_eq!(
+        asked(Form::Digest, &ask(&sample(), &[b'x'; 609], None)),
+        "code 101\nrefusal 1 2 0\n"
+    );
+}
+
+#[test]
+fn replayer() {
+    let run = reach(&sample(), &file(&["4 3"]), None).unwrap().run;
+    let judge = |at: usize, x: u32| {
+        let mut list = run.clone();
+        list[at] = x;
+        replay(&sample(), &list).unwrap()
+    };
+    assert_eq!(replay(&sample(), &run[..5]), Ok(Replayed::Good));
+    assert_eq!(judge(0, 1), Replayed::Bad(0));
+    assert_eq!(judge(4, 1), Replayed::Bad(0));
+    assert_eq!(judge(5, 0), Replayed::Bad(1));
+    assert_eq!(judge(5, 2), Replayed::Bad(1));
+    assert_eq!(judge(5, 3), Replayed::Bad(1));
+    assert_eq!(judge(5, u32::MAX), Replayed::Bad(1));
+    assert_eq!(judge(7, 1), Replayed::Bad(1));
+    assert_eq!(judge(13, 1), Replayed::Bad(1));
+    assert_eq!(judge(14, 1), Replayed::Bad(2));
+    assert_eq!(judge(15, 1), Replayed::Bad(2));
+    assert_eq!(judge(18, 2), Replayed::Bad(2));
+    for length in [0, 4, 6, 13, 15] {
+        let list = vec![0; length];
+        assert_eq!(replay(&[], &list), Err(refusal(9, 0, 0)));
+        assert_eq!(
+            replayed(Form::Fields, &replay(&[], &list)),
+            "     2     9     0     0\n"
+        );
+    }
+    assert_eq!(replay(&[], &[0; 5]), Err(refusal(2, 1, 1)));
+    assert_eq!(replayed(Form::Fields, &replay(&sample(), &[1; 5])), "     0     0\n");
+}
