@@ -4,3 +4,7 @@ pub mod Steps
 pub mod Rounds
 pub mod Tables
 pub mod DeadEnds
+pub mod Rules
+pub mod Buffer
+pub mod Atoms
+pub mod Asking
