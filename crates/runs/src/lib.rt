@@ -147,9 +147,9 @@ fn unscan(s: Seen, labels: [u8; 5], n: usize) -> [u32; 5]
     let mut ids = [0u32; 5];
     let mut i = 0;
     while i < n {
-        let x = identifier_of(seen, labels[i]);
-        ids[i] = x;
-        seen = note(seen, x);
+        let d = identifier_of(seen, labels[i]);
+        ids[i] = d;
+        seen = note(seen, d);
         i += 1;
     }
     ids
