@@ -5,3 +5,4 @@ pub mod Scans
 pub mod Seeks
 pub mod Tried
 pub mod Laws
+pub mod Callers
