@@ -1,0 +1,3 @@
+-- What the contracts of the printed run cite.
+pub mod Printed
+pub mod Writing
