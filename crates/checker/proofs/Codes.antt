@@ -1,0 +1,69 @@
+-- The editor's numbers: those of the replies, over memory that is long enough.
+-- Assumes nothing.
+use Prim.Native.Nat.{ℕ, _≤_}
+use mathlib.Core.Bool.{true}
+use mathlib.Core.List.{List}
+use mathlib.Core.Option.{Option, none, some}
+use mathlib.Core.Path.{_≡_, refl, sym, ap, _∙_}
+use native.Mathlib.Omega.{arith}
+use borrow.Author.Tests.{le-leb}
+use Rattle.graphs.specs.Search.{Walk}
+use Rattle.automata.specs.Automaton.{Automaton}
+use Rattle.automata.specs.Questions.{question}
+use Rattle.automata.specs.Answers.{nearestTo, failing}
+use Rattle.reader.specs.Form.{automatonOf, targetOf}
+use Rattle.questions.specs.Form.{rowsOf}
+use Rattle.checker.specs.Files.{Files, targetFiles, questionFiles, reachFiles, searchRoom, askFiles}
+use Rattle.checker.specs.Files.Files.{read, turned}
+use Rattle.checker.specs.Reaching.{foundReply, reachReply}
+use Rattle.checker.specs.Asking.{askedReply, askReply}
+use Rattle.checker.specs.Editor.{reachCode, askCode}
+use Rattle.checker.specs.declared.Reaching.{Reaching}
+use Rattle.checker.specs.declared.Reaching.the-variants.{Refused}
+use Rattle.checker.specs.declared.Asking.{Asking}
+use Rattle.checker.specs.declared.Asking.the-variants.{Refused as notAsked}
+use Rattle.checker.proofs.Filed.{ask-roomy}
+use Rattle.checker.proofs.Targeted.{reach-roomy}
+use Rattle.checker.proofs.Numbers.{LowFiles, target-files-low, question-files-low}
+
+module _ (w l k r p : ℕ) (s g : List ℕ) (hw : 337 ≤ w) (hl : 10784 ≤ l) (hk : 10784 ≤ k) (hr : 97061 ≤ r) (hp : 129420 ≤ p) (q : Reaching) (e : q ≡ reachReply (reachFiles w l k r p s g)) where
+  room : searchRoom w l k r p ≡ true
+  room = rw (le-leb 337 w hw, le-leb 10784 l hl, le-leb 10784 k hk, le-leb 97061 r hr, le-leb 129420 p hp) refl
+
+  -- the reply is that of the files alone
+  same : q ≡ reachReply (targetFiles s g)
+  same = e ∙ ap reachReply (reach-roomy w l k r p s g room)
+
+  pub reach-code : (n : ℕ) → n ≡ reachCode q → n ≡ reachCode (reachReply (targetFiles s g))
+  reach-code n d = d ∙ ap reachCode same
+
+  pub reach-number : (n f i : ℕ) → q ≡ Refused n f i → n ≤ 10
+  unfolding reachReply
+  reach-number n f i d = go (targetFiles s g) (target-files-low s g) (sym same ∙ d)
+    where
+      never : (a : Automaton) (o : Option Walk) → foundReply a o ≡ Refused n f i → n ≤ 10
+      never a none h = let z : _≡_ {A = ℕ} 0 1 = cc in absurd (omega arith)
+      never a (some x) h = let z : _≡_ {A = ℕ} 0 1 = cc in absurd (omega arith)
+
+      go : (x : Files) → LowFiles x → reachReply x ≡ Refused n f i → n ≤ 10
+      go (read t u m) low h = never (automatonOf t) (nearestTo (automatonOf t) (targetOf u)) h
+      go (turned m j y) low h = let z : m ≡ n = cc in omega arith
+
+module _ (w : ℕ) (s g : List ℕ) (hw : 10784 ≤ w) (q : Asking) (e : q ≡ askReply (askFiles w s g)) where
+  asked : q ≡ askReply (questionFiles s g)
+  asked = e ∙ ap askReply (ask-roomy w s g hw)
+
+  pub ask-code : (n : ℕ) → n ≡ askCode q → n ≡ askCode (askReply (questionFiles s g))
+  ask-code n d = d ∙ ap askCode asked
+
+  pub ask-number : (n f i : ℕ) → q ≡ notAsked n f i → n ≤ 10
+  unfolding askReply
+  ask-number n f i d = go (questionFiles s g) (question-files-low s g) (sym asked ∙ d)
+    where
+      never : (a : Automaton) (o : Option ℕ) → askedReply a o ≡ notAsked n f i → n ≤ 10
+      never a none h = let z : _≡_ {A = ℕ} 0 1 = cc in absurd (omega arith)
+      never a (some x) h = let z : _≡_ {A = ℕ} 0 1 = cc in absurd (omega arith)
+
+      go : (x : Files) → LowFiles x → askReply x ≡ notAsked n f i → n ≤ 10
+      go (read t u m) low h = never (automatonOf t) (failing (automatonOf t) (question (rowsOf u m))) h
+      go (turned m j y) low h = let z : m ≡ n = cc in omega arith

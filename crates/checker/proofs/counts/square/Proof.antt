@@ -1,0 +1,19 @@
+-- `counts::square` meets its contract.
+-- Assumes nothing.
+use borrow.Author.Needs.{needs}
+use native.Mathlib.Nat.{mul-le-mul}
+use Prim.Native.Nat.{_≤_}
+use native.Mathlib.Omega.{arith}
+use Rattle.checker.proofs.counts.square.Statement.{statement}
+use Rattle.checker.proofs.counts.square.Tie as tie
+
+mul-result : tie.Need-mul-result
+mul-result c =
+    let p : c .args .n ≤ 4294967295 = omega arith in
+    omega (arith, mul-le-mul p p)
+
+returns : tie.Need-returns
+returns c = search needs
+
+pub square-spec : {M : Type 1} → statement M
+square-spec = tie.close (tie.spec mul-result returns)

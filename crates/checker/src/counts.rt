@@ -1,0 +1,295 @@
+// Calls on contents, classes and matrices alone.
+ghost use mathlib.Core.Path.{_≡_};
+ghost use mathlib.Core.List.{_∷_, []};
+ghost use Prim.Native.Nat.{_*_, _≤_, _<_};
+ghost use lib.ListN.{length, getD, take};
+ghost use Rattle.classes.specs.Classes.{lists};
+ghost use Rattle.classes.specs.Renaming.{rising};
+ghost use Rattle.catalogue.specs.Arrays.{padded, written};
+ghost use Rattle.checker.specs.Refusals.{firstOf, buffer, size, order, doneUnless};
+ghost use Rattle.checker.specs.Counts.{
+  classCountReply,
+  classOfReply,
+  listOf,
+  contentsOfRefusal,
+  contentsOfOut,
+  matrixOfRefusal,
+  matrixOfOut,
+  contentsOfMatrixRefusal,
+  contentsOfMatrixOut,
+  matrixOfClassRefusal,
+  matrixOfClassOut,
+  classOfMatrixReply,
+};
+use crate::Number;
+use crate::Written;
+
+fn square(n: u32) -> usize
+    ensures { λ r. ⌜ r ≡ n * n ⌝ }
+{
+    (n as usize) * (n as usize)
+}
+
+// The refusal of lengths and counts, 0 where there is none.
+fn count_refusal(fits: bool, registers: u32, constants: usize) -> u32
+    ensures { λ r. ⌜ r ≡ firstOf (buffer fits ∷ size registers constants ∷ []) ⌝ }
+{
+    if !fits {
+        return 9;
+    }
+    if 5 < registers {
+        return 3;
+    }
+    if 2 < constants {
+        return 3;
+    }
+    0
+}
+
+// Do the constants, two at most, rise?
+fn rises(constants: &[u32]) -> bool
+    requires { ⌜ length (now constants) ≤ 2 ⌝ }
+    ensures { λ r. ⌜ r ≡ rising (now (constants .entry)) ⌝ }
+{
+    if constants.len() < 2 {
+        return true;
+    }
+    constants[0] < constants[1]
+}
+
+// The refusal of lengths, counts and constants, 0 where there is none.
+fn list_refusal(fits: bool, registers: u32, constants: &[u32]) -> u32
+    ensures { λ r. ⌜ r ≡ firstOf (buffer fits ∷ size registers (length (now (constants .entry))) ∷ order (now (constants .entry)) ∷ []) ⌝ }
+{
+    let refusal = count_refusal(fits, registers, constants.len());
+    if refusal != 0 {
+        return refusal;
+    }
+    if rises(constants) {
+        return 0;
+    }
+    4
+}
+
+// The constants, two at most, in an array.
+fn pair(constants: &[u32]) -> [u32; 2]
+    requires { ⌜ length (now constants) ≤ 2 ⌝ }
+    ensures { λ r. ⌜ take (length (now (constants .entry))) r ≡ now (constants .entry) ⌝ }
+{
+    let n = constants.len();
+    if n == 0 {
+        return [0, 0];
+    }
+    if n == 1 {
+        return [constants[0], 0];
+    }
+    [constants[0], constants[1]]
+}
+
+// The contents, five at most, in an array; zeros after them.
+fn five(contents: &[u32]) -> [u32; 5]
+    requires { ⌜ length (now contents) ≤ 5 ⌝ }
+    ensures { λ r. ⌜ r ≡ padded (now (contents .entry)) ⌝ }
+{
+    let mut list = [0u32; 5];
+    let mut i = 0;
+    while i < contents.len() {
+        list[i] = contents[i];
+        i += 1;
+    }
+    list
+}
+
+// The first n numbers to the front of a buffer.
+fn put(list: [u32; 5], n: usize, out: &mut [u32])
+    requires { ⌜ (n ≤ 5) × (n ≤ length (now out)) ⌝ }
+    ensures { λ r. ⌜ now (out .exit) ≡ written (take n list) (now (out .entry)) ⌝ }
+{
+    let mut i = 0;
+    while i < n {
+        out[i] = list[i];
+        i += 1;
+    }
+}
+
+// The list of a class; zeros after it.
+fn class_list(r: usize, c: usize, class: usize) -> [u8; 5]
+    requires { ⌜ (r ≤ 5) × (c ≤ 2) × (class < length (lists r c)) ⌝ }
+    ensures { λ q. ⌜ q ≡ padded (listOf r c class) ⌝ }
+{
+    let table = catalogue::table();
+    let mut rows = [0u16; 674];
+    catalogue::fill_rows(&table, r, c, &mut rows);
+    catalogue::class_labels(&table, &rows, r, c, class)
+}
+
+// The number of classes.
+pub fn class_count(registers: u32, constants: u32) -> Number
+    ensures { λ r. ⌜ r ≡ classCountReply registers constants ⌝ }
+{
+    let refusal = count_refusal(true, registers, constants as usize);
+    if refusal != 0 {
+        return Number::Refused {
+            number: refusal,
+            file: 0,
+            line: 0,
+        };
+    }
+    Number::Is(catalogue::class_count(registers as usize, constants as usize))
+}
+
+// The class number of contents.
+pub fn class_of(registers: u32, constants: &[u32], contents: &[u32]) -> Number
+    ensures { λ r. ⌜ r ≡ classOfReply registers (now (constants .entry)) (now (contents .entry)) ⌝ }
+{
+    let fits = contents.len() == registers as usize;
+    let refusal = list_refusal(fits, registers, constants);
+    if refusal != 0 {
+        return Number::Refused {
+            number: refusal,
+            file: 0,
+            line: 0,
+        };
+    }
+    let cs = pair(constants);
+    let list = five(contents);
+    Number::Is(catalogue::class_of(cs, constants.len(), list, contents.len()))
+}
+
+// The contents given back for a class.
+pub fn contents_of(registers: u32, constants: &[u32], class: usize, out: &mut [u32]) -> Written
+    ensures { λ r. ⌜ (r ≡ doneUnless (contentsOfRefusal registers (now (constants .entry)) class (now (out .entry)))) × (now (out .exit) ≡ contentsOfOut registers (now (constants .entry)) class (now (out .entry))) ⌝ }
+{
+    let r = registers as usize;
+    let fits = r <= out.len();
+    let refusal = list_refusal(fits, registers, constants);
+    if refusal != 0 {
+        return Written::Refused {
+            number: refusal,
+            file: 0,
+            line: 0,
+        };
+    }
+    let c = constants.len();
+    let count = catalogue::class_count(r, c);
+    if count <= class {
+        return Written::Refused {
+            number: 5,
+            file: 0,
+            line: 0,
+        };
+    }
+    let labels = class_list(r, c, class);
+    let cs = pair(constants);
+    let list = catalogue::contents_of(cs, c, labels, r);
+    put(list, r, out);
+    Written::Done
+}
+
+// The matrix of contents.
+pub fn matrix_of(registers: u32, constants: &[u32], contents: &[u32], out: &mut [u8]) -> Written
+    ensures { λ r. ⌜ (r ≡ doneUnless (matrixOfRefusal registers (now (constants .entry)) (now (contents .entry)) (now (out .entry)))) × (now (out .exit) ≡ matrixOfOut registers (now (constants .entry)) (now (contents .entry)) (now (out .entry))) ⌝ }
+{
+    let fits = (contents.len() == registers as usize) & (square(registers) <= out.len());
+    let refusal = list_refusal(fits, registers, constants);
+    if refusal != 0 {
+        return Written::Refused {
+            number: refusal,
+            file: 0,
+            line: 0,
+        };
+    }
+    let cs = pair(constants);
+    let list = five(contents);
+    catalogue::matrix_of(cs, constants.len(), list, contents.len(), out);
+    Written::Done
+}
+
+// The matrix of a class.
+pub fn matrix_of_class(registers: u32, constants: u32, class: usize, out: &mut [u8]) -> Written
+    ensures { λ r. ⌜ (r ≡ doneUnless (matrixOfClassRefusal registers constants class (now (out .entry)))) × (now (out .exit) ≡ matrixOfClassOut registers constants class (now (out .entry))) ⌝ }
+{
+    let c = constants as usize;
+    let fits = square(registers) <= out.len();
+    let refusal = count_refusal(fits, registers, c);
+    if refusal != 0 {
+        return Written::Refused {
+            number: refusal,
+            file: 0,
+            line: 0,
+        };
+    }
+    let r = registers as usize;
+    if catalogue::class_count(r, c) <= class {
+        return Written::Refused {
+            number: 5,
+            file: 0,
+            line: 0,
+        };
+    }
+    let labels = class_list(r, c, class);
+    catalogue::class_matrix(c, labels, r, out);
+    Written::Done
+}
+
+// The class number of a matrix.
+pub fn class_of_matrix(registers: u32, constants: u32, matrix: &[u8]) -> Number
+    ensures { λ r. ⌜ r ≡ classOfMatrixReply registers constants (now (matrix .entry)) ⌝ }
+{
+    let c = constants as usize;
+    let fits = matrix.len() == square(registers);
+    let refusal = count_refusal(fits, registers, c);
+    if refusal != 0 {
+        return Number::Refused {
+            number: refusal,
+            file: 0,
+            line: 0,
+        };
+    }
+    let found = catalogue::class_of_matrix(matrix, registers as usize, c);
+    match found {
+        catalogue::Found::Class(k) => Number::Is(k),
+        catalogue::Found::NoClass => Number::Refused {
+            number: 10,
+            file: 0,
+            line: 0,
+        },
+    }
+}
+
+// The contents given back for the class that has a matrix.
+pub fn contents_of_matrix(
+    registers: u32,
+    constants: &[u32],
+    matrix: &[u8],
+    out: &mut [u32],
+) -> Written
+    ensures { λ r. ⌜ (r ≡ doneUnless (contentsOfMatrixRefusal registers (now (constants .entry)) (now (matrix .entry)) (now (out .entry)))) × (now (out .exit) ≡ contentsOfMatrixOut registers (now (constants .entry)) (now (matrix .entry)) (now (out .entry))) ⌝ }
+{
+    let r = registers as usize;
+    let fits = (matrix.len() == square(registers)) & (r <= out.len());
+    let refusal = list_refusal(fits, registers, constants);
+    if refusal != 0 {
+        return Written::Refused {
+            number: refusal,
+            file: 0,
+            line: 0,
+        };
+    }
+    let c = constants.len();
+    let found = catalogue::class_of_matrix(matrix, r, c);
+    match found {
+        catalogue::Found::Class(k) => {
+            let labels = class_list(r, c, k);
+            let cs = pair(constants);
+            let list = catalogue::contents_of(cs, c, labels, r);
+            put(list, r, out);
+            Written::Done
+        }
+        catalogue::Found::NoClass => Written::Refused {
+            number: 10,
+            file: 0,
+            line: 0,
+        },
+    }
+}

@@ -1,0 +1,91 @@
+// The two functions for an editor written in C: bytes and lengths in, one number out, over memory of the checker's own.
+ghost use mathlib.Core.Path.{_≡_};
+ghost use Prim.Native.Nat.{_≤_};
+ghost use lib.ListN.{length};
+ghost use Rattle.checker.specs.Files.{targetFiles, questionFiles};
+ghost use Rattle.checker.specs.Reaching.{reachReply};
+ghost use Rattle.checker.specs.Asking.{askReply};
+ghost use Rattle.checker.specs.Editor.{reachCode, askCode};
+use crate::Asking;
+use crate::Reaching;
+use crate::goal::reach;
+use crate::question::ask;
+
+// Whether runs of the table reach the target, over lent memory.
+fn reach_over(
+    table: &[u8],
+    target: &[u8],
+    words: &mut [u32],
+    least: &mut [u16],
+    links: &mut [u16],
+    run: &mut [u32],
+    lines: &mut [u32],
+) -> u32
+    requires { ⌜ (337 ≤ length (now words)) × (10784 ≤ length (now least)) × (10784 ≤ length (now links)) × (97061 ≤ length (now run)) × (129420 ≤ length (now lines)) ⌝ }
+    ensures { λ r. ⌜ r ≡ reachCode (reachReply (targetFiles (now (table .entry)) (now (target .entry)))) ⌝ }
+{
+    let reply = reach(table, target, words, least, links, run, lines);
+    match reply {
+        Reaching::Never { reached: _ } => 0,
+        Reaching::Reached {
+            steps: _,
+            reached: _,
+        } => 1,
+        Reaching::Refused {
+            number,
+            file: _,
+            line: _,
+        } => 100 + number,
+    }
+}
+
+// Whether the question holds at every permitted start, over lent memory.
+fn ask_over(table: &[u8], question: &[u8], rows: &mut [u32]) -> u32
+    requires { ⌜ 10784 ≤ length (now rows) ⌝ }
+    ensures { λ r. ⌜ r ≡ askCode (askReply (questionFiles (now (table .entry)) (now (question .entry)))) ⌝ }
+{
+    let mut contents = [0u32; 5];
+    let reply = ask(table, question, rows, &mut contents);
+    match reply {
+        Asking::Yes => 1,
+        Asking::No {
+            class: _,
+            registers: _,
+        } => 0,
+        Asking::Refused {
+            number,
+            file: _,
+            line: _,
+        } => 100 + number,
+    }
+}
+
+// Table and target: 1 reached, 0 never, or 100 plus the refusal's number.
+#[no_mangle]
+pub extern "C" fn maceplateau_reach(table: &[u8], target: &[u8]) -> u32
+    ensures { λ r. ⌜ r ≡ reachCode (reachReply (targetFiles (now (table .entry)) (now (target .entry)))) ⌝ }
+{
+    let mut words = [0u32; 337];
+    let mut least = [0u16; 10784];
+    let mut links = [0u16; 10784];
+    let mut run = [0u32; 97061];
+    let mut lines = [0u32; 129420];
+    reach_over(
+        table,
+        target,
+        &mut words,
+        &mut least,
+        &mut links,
+        &mut run,
+        &mut lines,
+    )
+}
+
+// Table and question: 1 yes, 0 no, or 100 plus the refusal's number.
+#[no_mangle]
+pub extern "C" fn maceplateau_ask(table: &[u8], question: &[u8]) -> u32
+    ensures { λ r. ⌜ r ≡ askCode (askReply (questionFiles (now (table .entry)) (now (question .entry)))) ⌝ }
+{
+    let mut rows = [0u32; 10784];
+    ask_over(table, question, &mut rows)
+}

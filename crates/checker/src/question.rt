@@ -1,0 +1,101 @@
+// The call on a table and a question: its rows over all configurations, and whether it holds at every permitted start.
+ghost use mathlib.Core.Path.{_≡_};
+ghost use Prim.Native.Nat.{_≤_};
+ghost use lib.Dec.{T};
+ghost use lib.ListN.{length};
+ghost use Rattle.automata.specs.Questions.{question as asked, rowFormulas};
+ghost use Rattle.automata.specs.Configurations.{classes};
+ghost use Rattle.automata.specs.Answers.{failing};
+ghost use Rattle.automata.specs.WellFormed.{fitsQuestion};
+ghost use Rattle.reader.specs.Form.{automatonOf};
+ghost use Rattle.questions.specs.Form.{rowsOf};
+ghost use Rattle.relation.specs.Labels.{Lent};
+ghost use Rattle.formulas.specs.Rows.{shown};
+ghost use Rattle.checker.specs.Files.{askFiles};
+ghost use Rattle.checker.specs.Asking.{askedReply, askedContents, askReply, askRows, askContents};
+ghost use Rattle.checker.specs.Demand.{AskMeans};
+use crate::Asking;
+use crate::forms::class_contents;
+use crate::forms::classes_in;
+use crate::forms::wide;
+
+// Asks a question of an opened table, over memory for its step rows.
+fn answer_over(
+    steps: &mut [u32],
+    form: &[u32],
+    cat: &[u8],
+    question: &[u32],
+    count: usize,
+    rows: &mut [u32],
+    contents: &mut [u32; 5],
+) -> Asking
+    requires { ⌜ (992128 ≤ length (now steps)) × Lent (now form) (now cat) (length (classes (automatonOf (now form)))) × (length (now question) ≡ 96) × (count ≤ 32) × T (fitsQuestion (automatonOf (now form)) (rowsOf (now question) count)) × (10784 ≤ length (now rows)) ⌝ }
+    ensures { λ r. ⌜ (r ≡ askedReply (automatonOf (now (form .entry))) (failing (automatonOf (now (form .entry))) (asked (rowsOf (now (question .entry)) count)))) × (now (rows .exit) ≡ shown (automatonOf (now (form .entry))) (rowFormulas (rowsOf (now (question .entry)) count)) (now (rows .entry))) × (now (contents .exit) ≡ askedContents (automatonOf (now (form .entry))) (failing (automatonOf (now (form .entry))) (asked (rowsOf (now (question .entry)) count))) (now (contents .entry))) ⌝ }
+{
+    let n = classes_in(form);
+    relation::fill(form, cat, n, steps);
+    let answer = formulas::ask(steps, form, cat, n, question, count, rows);
+    match answer {
+        formulas::Answer::Yes => Asking::Yes,
+        formulas::Answer::No(class) => {
+            *contents = class_contents(form, cat, n, class);
+            Asking::No {
+                class: class,
+                registers: wide(form[1]),
+            }
+        }
+    }
+}
+
+// The same, over memory of its own.
+fn answer(
+    form: &[u32],
+    cat: &[u8],
+    question: &[u32],
+    count: usize,
+    rows: &mut [u32],
+    contents: &mut [u32; 5],
+) -> Asking
+    requires { ⌜ Lent (now form) (now cat) (length (classes (automatonOf (now form)))) × (length (now question) ≡ 96) × (count ≤ 32) × T (fitsQuestion (automatonOf (now form)) (rowsOf (now question) count)) × (10784 ≤ length (now rows)) ⌝ }
+    ensures { λ r. ⌜ (r ≡ askedReply (automatonOf (now (form .entry))) (failing (automatonOf (now (form .entry))) (asked (rowsOf (now (question .entry)) count)))) × (now (rows .exit) ≡ shown (automatonOf (now (form .entry))) (rowFormulas (rowsOf (now (question .entry)) count)) (now (rows .entry))) × (now (contents .exit) ≡ askedContents (automatonOf (now (form .entry))) (failing (automatonOf (now (form .entry))) (asked (rowsOf (now (question .entry)) count))) (now (contents .entry))) ⌝ }
+{
+    let mut steps = [0u32; 992128];
+    answer_over(&mut steps, form, cat, question, count, rows, contents)
+}
+
+// Whether a question holds at every permitted start of a table. Refusals write nothing.
+pub fn ask(table: &[u8], question: &[u8], rows: &mut [u32], contents: &mut [u32; 5]) -> Asking
+    ensures { λ r. ⌜ (r ≡ askReply (askFiles (length (now (rows .entry))) (now (table .entry)) (now (question .entry)))) × (now (rows .exit) ≡ askRows (askFiles (length (now (rows .entry))) (now (table .entry)) (now (question .entry))) (now (rows .entry))) × (now (contents .exit) ≡ askContents (askFiles (length (now (rows .entry))) (now (table .entry)) (now (question .entry))) (now (contents .entry))) × AskMeans (askFiles (length (now (rows .entry))) (now (table .entry)) (now (question .entry))) r (now (rows .exit)) (now (contents .exit)) ⌝ }
+{
+    if rows.len() < 10784 {
+        return Asking::Refused {
+            number: 9,
+            file: 0,
+            line: 0,
+        };
+    }
+    let mut form = [0u32; 5544];
+    let mut labels = [0u8; 3370];
+    let opened = tables::open_table(table, &mut form, &mut labels);
+    match opened {
+        reader::Reply::Refused { number, file, line } => Asking::Refused {
+            number: number,
+            file: file,
+            line: line,
+        },
+        reader::Reply::Accepted => {
+            let mut lines = [0u32; 96];
+            let reply = questions::read_question(form[1], form[2], form[3], question, &mut lines);
+            match reply {
+                questions::Reply::Refused { number, line } => Asking::Refused {
+                    number: number,
+                    file: 2,
+                    line: line,
+                },
+                questions::Reply::Accepted(count) => {
+                    answer(&form, &labels, &lines, count, rows, contents)
+                }
+            }
+        }
+    }
+}

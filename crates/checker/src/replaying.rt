@@ -1,0 +1,113 @@
+// Replaying a run of a table: its length, the table's refusals, and then the verdict.
+ghost use mathlib.Core.Path.{_≡_};
+ghost use lib.ListN.{length};
+ghost use Rattle.tables.specs.Opening.{openTable};
+ghost use Rattle.checker.specs.Replaying.{wholeLength, replied, replayReply, replayStepsReply, openedOf, openedRefusal};
+use crate::Opened;
+use crate::Replayed;
+use reader::Reply;
+use replay::Step;
+use replay::Verdict;
+
+// Is this the length of a replayer's list?
+fn whole(n: usize) -> bool
+    ensures { λ r. ⌜ r ≡ wholeLength n ⌝ }
+{
+    if n < 5 {
+        return false;
+    }
+    (n - 5) % 9 == 0
+}
+
+fn reply_of(verdict: Verdict) -> Replayed
+    ensures { λ r. ⌜ r ≡ replied verdict ⌝ }
+{
+    match verdict {
+        Verdict::Good => Replayed::Good,
+        Verdict::Bad(moment) => Replayed::Bad(moment),
+    }
+}
+
+// Judges a run in the flat form: five start contents, then nine numbers for each step.
+pub fn replay(table: &[u8], run: &[u32]) -> Replayed
+    ensures { λ r. ⌜ r ≡ replayReply (now (table .entry)) (now (run .entry)) ⌝ }
+{
+    if !whole(run.len()) {
+        return Replayed::Refused {
+            number: 9,
+            file: 0,
+            line: 0,
+        };
+    }
+    let mut form = [0u32; 5544];
+    let mut labels = [0u8; 3370];
+    let reply = tables::open_table(table, &mut form, &mut labels);
+    match reply {
+        Reply::Accepted => reply_of(replay::replay(&form, run)),
+        Reply::Refused { number, file, line } => Replayed::Refused {
+            number: number,
+            file: file,
+            line: line,
+        },
+    }
+}
+
+fn opening(table: &[u8]) -> Opened
+    ensures { λ r. ⌜ r ≡ openedOf (openTable (now (table .entry))) ⌝ }
+{
+    let mut form = [0u32; 5544];
+    let mut labels = [0u8; 3370];
+    let reply = tables::open_table(table, &mut form, &mut labels);
+    match reply {
+        Reply::Accepted => Opened {
+            refused: false,
+            number: 0,
+            line: 0,
+            form: form,
+        },
+        Reply::Refused {
+            number,
+            file: _,
+            line,
+        } => Opened {
+            refused: true,
+            number: number,
+            line: line,
+            form: form,
+        },
+    }
+}
+
+fn is_refused(o: Opened) -> bool
+    ensures { λ r. ⌜ r ≡ o .refused ⌝ }
+{
+    o.refused
+}
+
+fn form_of(o: Opened) -> [u32; 5544]
+    ensures { λ r. ⌜ r ≡ o .form ⌝ }
+{
+    o.form
+}
+
+fn refusal_of(o: Opened) -> Replayed
+    ensures { λ r. ⌜ r ≡ openedRefusal o ⌝ }
+{
+    Replayed::Refused {
+        number: o.number,
+        file: 1,
+        line: o.line,
+    }
+}
+
+// Judges a run that is lent as steps.
+pub fn replay_steps(table: &[u8], start: [u32; 5], steps: &[Step]) -> Replayed
+    ensures { λ r. ⌜ r ≡ replayStepsReply (now (table .entry)) start (now (steps .entry)) ⌝ }
+{
+    let opened = opening(table);
+    if is_refused(opened) {
+        return refusal_of(opened);
+    }
+    let form = form_of(opened);
+    reply_of(replay::replay_steps(&form, start, steps))
+}
