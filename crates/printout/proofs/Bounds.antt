@@ -1,0 +1,87 @@
+-- What is printed has its room: a run has at most 10,785 moments, and a class that a no names is below 674.
+-- Assumes nothing.
+use Prim.Native.Nat.{ℕ, _≤_}
+use mathlib.Core.Bool.{Bool, true, false}
+use mathlib.Core.List.{List}
+use mathlib.Core.Option.{Option, none, some}
+use mathlib.Core.Path.{_≡_, refl, ap}
+use native.Mathlib.Omega.{arith}
+use lib.ListN.{length}
+use Rattle.graphs.specs.Search.{Walk}
+use Rattle.graphs.specs.Formulas.{Formula}
+use Rattle.graphs.proofs.Lists.{Least, least-is}
+use Rattle.automata.specs.Runs.{Target}
+use Rattle.automata.specs.Questions.{Atom, question}
+use Rattle.automata.specs.Configurations.{classes}
+use Rattle.automata.specs.Answers.{nearestTo, failsAt, failing}
+use Rattle.reader.specs.Form.{cell, automatonOf, targetOf}
+use Rattle.reader.specs.Table.{readTarget}
+use Rattle.reader.specs.Table as table-file
+use Rattle.reader.specs.Table.Outcome.{table, refused}
+use Rattle.questions.specs.Form.{rowsOf}
+use Rattle.questions.specs.Question.{readQuestion}
+use Rattle.questions.specs.Question as question-file
+use Rattle.questions.specs.Question.Outcome.{rows, refused as not-asked}
+use Rattle.arcs.specs.Readable.{Readable}
+use Rattle.tables.specs.Opening.{openTable}
+use Rattle.tables.proofs.Opened.{opened-readable}
+use Rattle.tables.proofs.Labels.{classes-most, classes-are, counts-few}
+use Rattle.witness.proofs.Finding.{few-steps}
+use Rattle.checker.specs.Files.{withTarget, withQuestion, afterTable, targetFiles, questionFiles, roomFor, searchRoom, rowsRoom, reachFiles, askFiles}
+use Rattle.checker.specs.Reaching.{foundReply, reachReply}
+use Rattle.checker.specs.Asking.{askedReply, askReply}
+use Rattle.printout.specs.Answers.{momentCount, classOf}
+
+found-few : (t : List ℕ) → Readable t → (g : Target) → momentCount (foundReply (automatonOf t) (nearestTo (automatonOf t) g)) ≤ 10785
+found-few t r g = go (nearestTo (automatonOf t) g) refl
+  where
+    go : (o : Option Walk) → nearestTo (automatonOf t) g ≡ o → momentCount (foundReply (automatonOf t) o) ≤ 10785
+    go none e = omega arith
+    go (some w) e = omega (arith, few-steps (automatonOf t) (r .fits) (r .small) g w e)
+
+target-few : (s g : List ℕ) → momentCount (reachReply (targetFiles s g)) ≤ 10785
+unfolding reachReply
+target-few s g = go (openTable s) refl
+  where
+    go : (o : table-file.Outcome) → openTable s ≡ o → momentCount (reachReply (afterTable (λ t. withTarget t (readTarget t g)) o)) ≤ 10785
+    go (table t) e = then (readTarget t g)
+      where
+        then : (o : table-file.Outcome) → momentCount (reachReply (withTarget t o)) ≤ 10785
+        then (table u) = found-few t (opened-readable s t e .0) (targetOf u)
+        then (refused n l) = omega arith
+    go (refused n l) e = omega arith
+
+pub moments-few : (w l k r p : ℕ) (s g : List ℕ) → momentCount (reachReply (reachFiles w l k r p s g)) ≤ 10785
+unfolding reachFiles reachReply
+moments-few w l k r p s g = go (searchRoom w l k r p)
+  where
+    go : (b : Bool) → momentCount (reachReply (roomFor b (targetFiles s g))) ≤ 10785
+    go true = target-few s g
+    go false = omega arith
+
+failing-low : (t : List ℕ) → Readable t → (f : Formula Atom) → classOf (askedReply (automatonOf t) (failing (automatonOf t) f)) ≤ 673
+failing-low t r f = go (failing (automatonOf t) f) (least-is (failsAt (automatonOf t) f) 0 (length (classes (automatonOf t))))
+  where
+    go : (o : Option ℕ) → Least (failsAt (automatonOf t) f) 0 (length (classes (automatonOf t))) o → classOf (askedReply (automatonOf t) o) ≤ 673
+    go none h = omega arith
+    go (some k) h = let (few, low) = counts-few t r in omega (arith, h .1, ap length (classes-are t), classes-most (cell t 0 1) (cell t 0 2) few low)
+
+question-low : (s q : List ℕ) → classOf (askReply (questionFiles s q)) ≤ 673
+unfolding askReply
+question-low s q = go (openTable s) refl
+  where
+    go : (o : table-file.Outcome) → openTable s ≡ o → classOf (askReply (afterTable (λ t. withQuestion t (readQuestion (cell t 0 1) (cell t 0 2) (cell t 0 3) q)) o)) ≤ 673
+    go (table t) e = then (readQuestion (cell t 0 1) (cell t 0 2) (cell t 0 3) q)
+      where
+        then : (o : question-file.Outcome) → classOf (askReply (withQuestion t o)) ≤ 673
+        then (rows u n) = failing-low t (opened-readable s t e .0) (question (rowsOf u n))
+        then (not-asked n l) = omega arith
+    go (refused n l) e = omega arith
+
+pub class-low : (w : ℕ) (s q : List ℕ) → classOf (askReply (askFiles w s q)) ≤ 673
+unfolding askFiles askReply
+class-low w s q = go (rowsRoom w)
+  where
+    go : (b : Bool) → classOf (askReply (roomFor b (questionFiles s q))) ≤ 673
+    go true = question-low s q
+    go false = omega arith

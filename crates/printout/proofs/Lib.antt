@@ -1,0 +1,5 @@
+-- What the proofs of the printouts share.
+pub mod Bytes
+pub mod Bounds
+pub mod Whole
+pub mod Document

@@ -1,0 +1,67 @@
+-- `printout::found::reach_text` meets its contract: the printout of what the checker returns. Assumes nothing.
+use Prim.Native.Nat.{ℕ, _≤_}
+use mathlib.Core.Path.{_≡_, refl, sym, _∙_, subst}
+use lib.ListN.{length, replicate, length-replicate}
+use Rattle.printout.specs.Answers.{momentCount}
+use Rattle.printout.proofs.Bounds.{moments-few}
+use Rattle.printout.proofs.Whole.{found-whole}
+use borrow.Author.Needs.{needs}
+use Rattle.printout.proofs.found.reach_text.Statement.{statement}
+use Rattle.printout.proofs.found.reach_text.Tie as tie
+use Rattle.printout.proofs.found.reach_text.Reads as reads
+use Rattle.printout.proofs.found.reach_text.Lts as lts
+use Rattle.checker.proofs.reach.Reads as reach-reads
+use Rattle.printout.proofs.found.write.Reads as write-reads
+
+size : (n : ℕ) → length (replicate {A = ℕ} n 0) ≡ n
+size n = length-replicate {0} {A = ℕ} n 0
+
+slice-aggregate-reach : tie.Need-slice-aggregate-reach
+slice-aggregate-reach c = search needs
+
+slice-aggregate-reach-2 : tie.Need-slice-aggregate-reach-2
+slice-aggregate-reach-2 c = search needs
+
+slice-aggregate-reach-3 : tie.Need-slice-aggregate-reach-3
+slice-aggregate-reach-3 c = search needs
+
+slice-aggregate-reach-4 : tie.Need-slice-aggregate-reach-4
+slice-aggregate-reach-4 c = search needs
+
+slice-aggregate-reach-5 : tie.Need-slice-aggregate-reach-5
+slice-aggregate-reach-5 c = search needs
+
+reach-requires : tie.Need-reach-requires
+reach-requires c κs = search needs
+
+slice-aggregate-write : tie.Need-slice-aggregate-write
+slice-aggregate-write c = search needs
+
+write-requires : tie.Need-write-requires
+write-requires c κs =
+    let a = c .before .before .before .before .before .before .before .before .before .before .before .before .before .before .before .args in (
+      subst (λ r. momentCount r ≤ 10785) (sym (c .before .before .before .before .before .before .before .reach .ensures .0)) (moments-few _ _ _ _ _ (a .table .now) (a .target .now)),
+      search needs,
+      search needs,
+    )
+
+returns : tie.Need-returns
+returns c =
+    let a = c .before .before .before .before .before .before .before .before .before .before .before .before .before .before .before .before .args in
+    let k = c .before .before .before .before .before .before .before .before .reach .ensures in
+    let w = c .write .ensures in
+    (w .0, w .1 ∙ found-whole (a .table .now) (a .target .now) _ _ _ _ _ _ _ _ (size 337) (size 10784) (size 10784) (size 97061) (size 129420) (k .0) (k .5) refl)
+
+pub reach-text-spec : {M : Type 1} → statement M
+reach-text-spec =
+    tie.close
+    (tie.spec
+    slice-aggregate-reach
+    slice-aggregate-reach-2
+    slice-aggregate-reach-3
+    slice-aggregate-reach-4
+    slice-aggregate-reach-5
+    reach-requires
+    slice-aggregate-write
+    write-requires
+    returns)

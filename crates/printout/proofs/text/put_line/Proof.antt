@@ -1,0 +1,44 @@
+-- `printout::text::put_line` meets its contract. Assumes nothing.
+use Prim.Native.Nat.{_+_, _*_, _≤_}
+use mathlib.Core.Path.{refl, sym}
+use native.Mathlib.Omega.{arith}
+use lib.ListN.{length, set, length-set}
+use lib.Seq.{length-take-le}
+use Rattle.printout.proofs.Bytes.{line-ends}
+use borrow.Author.Needs.{needs}
+use Rattle.printout.proofs.text.put_line.Statement.{statement}
+use Rattle.printout.proofs.text.put_line.Tie as tie
+use Rattle.printout.proofs.text.put_line.Reads as reads
+use Rattle.printout.proofs.text.put_line.Lts as lts
+use Rattle.printout.proofs.text.put_numbers.Reads as put-numbers-reads
+
+put-numbers-requires : tie.Need-put-numbers-requires
+put-numbers-requires c κs = search needs
+
+mul-end : tie.Need-mul-end
+mul-end c = search needs
+
+add-end : tie.Need-add-end
+add-end c = search needs
+
+slice-write-text : tie.Need-slice-write-text
+slice-write-text c = search needs
+
+add-result : tie.Need-add-result
+add-result c = search needs
+
+same-length : tie.Need-same-length
+same-length c = search needs
+
+returns : tie.Need-returns
+returns c =
+    let a = c .before .before .before .before .before .before .args in
+    let p = c .before .before .put-numbers in
+    let end = a .at + 6 * length (a .numbers .now) in
+    let h : end + 1 ≤ length (set (p .last .0) end 10) = simp length-set (omega (arith, c .before .text .given)) in
+    (refl, (h, sym (length-take-le (end + 1) (set (p .last .0) end 10) h)), line-ends (p .last .0) (a .text .now) (a .numbers .now) (a .at) end (end + 1) (omega arith) (omega (arith, c .before .text .given)) (p .ensures))
+
+pub put-line-spec : {M : Type 1} → statement M
+put-line-spec =
+    tie.close
+    (tie.spec put-numbers-requires mul-end add-end slice-write-text add-result same-length returns)
