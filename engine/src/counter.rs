@@ -145,3 +145,58 @@ pub fn counter(random: &mut Random, registers: usize, further: usize, wide: bool
         },
     )
 }
+
+/// All configurations of five registers, two constants and sixteen places in one falling order: a step lowers the place,
+/// or from place 1 the list. Each round of EG takes away one configuration only.
+pub fn falling() -> (Table, Target) {
+    let keep = |until: usize| (1..until).map(|r| (r, Term::Register(r)));
+    let mut arcs = Vec::new();
+    for i in 1..=5 {
+        let here = Term::Register(i);
+        let mut lower = |conditions: Vec<Condition>, value: Term| {
+            let mut sets: Vec<(usize, Term)> = keep(i).collect();
+            sets.push((i, value));
+            arcs.push(Arc {
+                from: 1,
+                action: 2,
+                to: 16,
+                conditions,
+                sets,
+            });
+        };
+        lower(vec![differ(here, LOW)], LOW);
+        lower(vec![differ(here, LOW), differ(here, HIGH)], HIGH);
+        // To the block of register j: this one's block is later than all blocks of registers 1 to j.
+        for j in 1..i {
+            let there = Term::Register(j);
+            let mut conditions = vec![
+                differ(there, LOW),
+                differ(there, HIGH),
+                differ(here, LOW),
+                differ(here, HIGH),
+            ];
+            conditions.extend((1..=j).map(|m| differ(here, Term::Register(m))));
+            lower(conditions, there);
+        }
+    }
+    for place in 2..=16 {
+        arcs.push(Arc {
+            from: place,
+            action: 2,
+            to: place - 1,
+            conditions: vec![],
+            sets: keep(6).collect(),
+        });
+    }
+    let table = Table {
+        registers: 5,
+        constants: vec![0, 1],
+        places: 16,
+        arity: vec![1, 0],
+        start: 16,
+        start_conditions: vec![],
+        arcs,
+    };
+    let conditions = (1..=5).map(|r| same(Term::Register(r), LOW)).collect();
+    (table, Target { place: 1, conditions })
+}

@@ -16,4 +16,5 @@ pub mod read;
 pub mod replay;
 pub mod run;
 pub mod table;
+pub mod trials;
 pub mod write;

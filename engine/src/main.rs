@@ -9,6 +9,7 @@ use engine::print::{asked, fields, reached, refused, replayed, Form};
 use engine::random::Random;
 use engine::read::{read_table, Refusal};
 use engine::replay::replay;
+use engine::trials;
 use std::io::Write;
 use std::path::Path;
 use std::process::ExitCode;
@@ -26,6 +27,7 @@ const USAGE: &str = "usage:
   engine generate SEED COUNT DIR [tiny | small | large | long | full | damaged | mixed]
   engine expect DIR
   engine mutate SEED FILE
+  engine trials FOLDER [SEED]
 ";
 
 struct Options {
@@ -140,6 +142,11 @@ fn answer() -> Option<Vec<u8>> {
             String::new()
         }
         ["expect", dir] => format!("{} cases\n", expect(Path::new(dir)).ok()?),
+        ["trials", folder] | ["trials", folder, _] => {
+            let seed = words.get(2).map_or(Some(trials::SEED), |w| w.parse().ok())?;
+            trials::write_all(Path::new(folder), seed).ok()?;
+            String::new()
+        }
         ["mutate", seed, file] => {
             return Some(mutate(&mut Random::new(seed.parse().ok()?), &bytes(Path::new(file))));
         }

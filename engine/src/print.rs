@@ -30,6 +30,22 @@ pub fn digest(numbers: &[u32]) -> u64 {
     hash
 }
 
+/// What is printed of a run, moment by moment: twelve numbers each, first how many follow that are printed, then
+/// moment, arc, place, registers, parameters, and zeros.
+pub fn moments(a: &Reached) -> Vec<u32> {
+    let mut numbers = Vec::new();
+    for (moment, m) in a.moments.iter().enumerate() {
+        let parameters = if moment == 0 { 0 } else { a.arities[m.arc - 1] };
+        let mut line = vec![(3 + a.registers + parameters) as u32];
+        line.extend([moment as u32, m.arc as u32, m.place as u32]);
+        line.extend(&m.contents[..a.registers]);
+        line.extend(&m.parameters[..parameters]);
+        line.resize(12, 0);
+        numbers.extend(line);
+    }
+    numbers
+}
+
 fn labelled(label: &str, numbers: &[u32]) -> String {
     let mut line = format!("{label} {}", numbers.len());
     for n in numbers {
@@ -61,11 +77,8 @@ pub fn reached(form: Form, answer: &Result<Reached, Refusal>) -> String {
     };
     if form == Form::Fields {
         let mut text = fields(&[a.reached as usize, a.steps, a.count]);
-        for (moment, m) in a.moments.iter().enumerate() {
-            let parameters = if moment == 0 { 0 } else { a.arities[m.arc - 1] };
-            let mut line = vec![moment, m.arc, m.place];
-            line.extend(m.contents[..a.registers].iter().map(|&x| x as usize));
-            line.extend(m.parameters[..parameters].iter().map(|&x| x as usize));
+        for m in moments(a).chunks(12) {
+            let line: Vec<usize> = m[1..=m[0] as usize].iter().map(|&x| x as usize).collect();
             text.push_str(&fields(&line));
         }
         return text;

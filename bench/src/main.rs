@@ -1,0 +1,252 @@
+//! Times the checker's C functions and the plain implementation on the same tables, in one run.
+//!
+//! Every number is the median of several trials, each of as many calls as fill a few milliseconds; the trials of the two
+//! take turns, so that a slow spell of the machine hits both. Time is the thread's on its processor: what others take of it
+//! does not count. Behind the medians stands how far the middle half of the checker's trials lies apart, in percent.
+
+use bench::checker;
+use bench::plain::{self, Rounds};
+use bench::tables::{long_run, many_losses, many_rounds, mix, sample, sized, smallest, worst, Case, Worst};
+use std::hint::black_box;
+
+/// C's time: seconds and nanoseconds.
+#[repr(C)]
+struct Timespec {
+    seconds: i64,
+    nanoseconds: i64,
+}
+
+extern "C" {
+    fn clock_gettime(clock: i32, time: *mut Timespec) -> i32;
+}
+
+/// Linux's clock of a thread.
+const THREAD_CLOCK: i32 = 3;
+
+/// The seconds that this thread has run.
+fn now() -> f64 {
+    let mut t = Timespec {
+        seconds: 0,
+        nanoseconds: 0,
+    };
+    // It writes the time to `t`, which lives.
+    let failed = unsafe { clock_gettime(THREAD_CLOCK, &mut t) };
+    assert_eq!(failed, 0, "no clock");
+    t.seconds as f64 + t.nanoseconds as f64 * 1e-9
+}
+
+/// Seconds for one call, and how far the middle half of the trials lies apart, in percent of the median.
+#[derive(Clone, Copy)]
+struct Time {
+    median: f64,
+    spread: f64,
+}
+
+fn once(call: &mut dyn FnMut(), calls: usize) -> f64 {
+    let start = now();
+    for _ in 0..calls {
+        call();
+    }
+    (now() - start) / calls as f64
+}
+
+fn time_of(mut trials: Vec<f64>) -> Time {
+    trials.sort_by(|a, b| a.total_cmp(b));
+    let n = trials.len();
+    let median = trials[n / 2];
+    Time {
+        median,
+        spread: 100.0 * (trials[3 * n / 4] - trials[n / 4]) / median,
+    }
+}
+
+/// Times the calls in turns, fewer times where a call takes long.
+fn time(calls: &mut [&mut dyn FnMut()]) -> Vec<Time> {
+    let first: Vec<f64> = calls.iter_mut().map(|call| once(*call, 1)).collect();
+    let slowest = first.iter().copied().fold(0.0, f64::max);
+    let trials = match slowest {
+        // Once is enough there.
+        s if s > 10.0 => return first.into_iter().map(|t| time_of(vec![t])).collect(),
+        s if s > 1.0 => 3,
+        s if s > 0.1 => 7,
+        _ => 15,
+    };
+    let mut found: Vec<Vec<f64>> = vec![vec![]; calls.len()];
+    for _ in 0..trials {
+        for (i, call) in calls.iter_mut().enumerate() {
+            let count = (0.004 / first[i]).ceil().clamp(1.0, 2000.0) as usize;
+            found[i].push(once(*call, count));
+        }
+    }
+    found.into_iter().map(time_of).collect()
+}
+
+fn short(seconds: f64) -> String {
+    if seconds >= 1.0 {
+        format!("{seconds:.2} s")
+    } else if seconds >= 1e-3 {
+        format!("{:.2} ms", seconds * 1e3)
+    } else {
+        format!("{:.2} us", seconds * 1e6)
+    }
+}
+
+fn line(name: &str, ours: Option<Time>, plain: &[Time]) {
+    let mut text = format!("{name:<48}");
+    text.push_str(&format!("{:>12}", ours.map_or("-".to_string(), |t| short(t.median))));
+    for t in plain {
+        text.push_str(&format!("{:>12}", short(t.median)));
+        text.push_str(&format!(
+            "{:>8}",
+            ours.map_or("-".to_string(), |o| format!("{:.2}", o.median / t.median))
+        ));
+    }
+    let spread = ours.unwrap_or(plain[0]).spread;
+    println!("{text}{spread:>7.1} %");
+}
+
+fn reaching(c: &Case) {
+    let code = checker::reach(&c.table, &c.target);
+    let plainly = plain::reach(&c.table, &c.target).expect("a good table");
+    if let Some(code) = code {
+        assert_eq!(code, plainly.reached as u32, "{}", c.name);
+    }
+    let mut ours = || {
+        black_box(checker::reach(black_box(&c.table), black_box(&c.target)));
+    };
+    let mut plain = || {
+        black_box(plain::reach(black_box(&c.table), black_box(&c.target)).is_ok());
+    };
+    if checker::LINKED {
+        let t = time(&mut [&mut ours, &mut plain]);
+        line(&c.name, Some(t[0]), &t[1..]);
+    } else {
+        let t = time(&mut [&mut plain]);
+        line(&c.name, None, &t);
+    }
+}
+
+fn asking(c: &Case) {
+    let code = checker::ask(&c.table, &c.question);
+    let plainly = plain::ask(&c.table, &c.question, Rounds::Back).expect("a good question");
+    if let Some(code) = code {
+        assert_eq!(code, plainly.yes as u32, "{}", c.name);
+    }
+    let mut ours = || {
+        black_box(checker::ask(black_box(&c.table), black_box(&c.question)));
+    };
+    let mut whole = || {
+        black_box(plain::ask(black_box(&c.table), black_box(&c.question), Rounds::Whole).is_ok());
+    };
+    let mut back = || {
+        black_box(plain::ask(black_box(&c.table), black_box(&c.question), Rounds::Back).is_ok());
+    };
+    if checker::LINKED {
+        let t = time(&mut [&mut ours, &mut whole, &mut back]);
+        line(&c.name, Some(t[0]), &t[1..]);
+    } else {
+        let t = time(&mut [&mut whole, &mut back]);
+        line(&c.name, None, &t);
+    }
+}
+
+fn header(title: &str, columns: &[&str]) {
+    let mut text = format!("\n{title:<48}{:>12}", "checker");
+    for column in columns {
+        text.push_str(&format!("{column:>12}{:>8}", "ratio"));
+    }
+    println!("{text}{:>9}", "spread");
+}
+
+fn run() {
+    let worst_kinds = [Worst::Free, Worst::Set, Worst::Keep, Worst::Fresh, Worst::Idle];
+    println!("Medians. Ratio: the checker's time to the plain implementation's. Spread: the middle half of the checker's trials.");
+    println!("Buffers: the C functions have working buffers of their own and clear them at each call; the plain implementation");
+    println!("allocates and clears its vectors at each call. The smallest table shows what that costs.");
+    if !checker::LINKED {
+        println!("The checker is not linked (no target/staticlib/libchecker.a): the plain implementation alone.");
+    }
+
+    header("reaching", &["plain"]);
+    reaching(&smallest());
+    reaching(&sample());
+    for c in mix() {
+        reaching(&c);
+    }
+    for kind in worst_kinds {
+        reaching(&worst(kind));
+    }
+    reaching(&long_run());
+
+    header("questions", &["plain", "going back"]);
+    asking(&smallest());
+    asking(&sample());
+    for c in mix() {
+        asking(&c);
+    }
+    for kind in worst_kinds {
+        asking(&worst(kind));
+    }
+    asking(&long_run());
+    asking(&many_rounds(1));
+    asking(&many_losses(1));
+    // These take minutes.
+    if std::env::args().any(|a| a == "all") {
+        asking(&many_rounds(31));
+        asking(&many_losses(31));
+    }
+
+    header("growth: reaching", &["plain"]);
+    for registers in 0..=5 {
+        reaching(&sized(Worst::Set, registers, 64, 3));
+    }
+    for arcs in [0, 16, 32, 48, 64] {
+        reaching(&sized(Worst::Set, 5, arcs, 3));
+    }
+    for parameters in 0..=3 {
+        reaching(&sized(Worst::Set, 5, 64, parameters));
+    }
+
+    header("growth: questions", &["plain", "going back"]);
+    for registers in 0..=5 {
+        asking(&sized(Worst::Set, registers, 64, 3));
+    }
+    for arcs in [0, 16, 32, 48, 64] {
+        asking(&sized(Worst::Set, 5, arcs, 3));
+    }
+    for parameters in 0..=3 {
+        asking(&sized(Worst::Set, 5, 64, parameters));
+    }
+}
+
+/// Writes the files of the cases whose use of the stack is measured.
+fn write_files(folder: &str) -> std::io::Result<()> {
+    for (name, c) in [
+        ("smallest", smallest()),
+        ("sample", sample()),
+        ("worst", worst(Worst::Set)),
+        ("long", long_run()),
+        ("rounds", many_rounds(31)),
+        ("losses", many_losses(1)),
+    ] {
+        std::fs::write(format!("{folder}/{name}.table"), &c.table)?;
+        std::fs::write(format!("{folder}/{name}.target"), &c.target)?;
+        std::fs::write(format!("{folder}/{name}.question"), &c.question)?;
+    }
+    Ok(())
+}
+
+fn main() {
+    let words: Vec<String> = std::env::args().collect();
+    if let [_, word, folder] = &words[..] {
+        if word == "files" {
+            return write_files(folder).expect("the files");
+        }
+    }
+    // The checker's working buffers and its recursive walk live on the stack.
+    let thread = std::thread::Builder::new()
+        .stack_size(256 << 20)
+        .spawn(run)
+        .expect("a thread");
+    thread.join().expect("the benchmark");
+}

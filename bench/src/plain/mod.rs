@@ -1,0 +1,13 @@
+//! A plain implementation over classes, written from documents 01 and 001 without tricks: lists of
+//! labels, successor classes by trying parameter labels, breadth-first search, rounds. It gives all that the
+//! checker gives, and allocates its buffers at each call.
+
+mod classes;
+mod questions;
+mod read;
+mod runs;
+mod steps;
+
+pub use questions::{ask, Asked, Rounds};
+pub use read::Refusal;
+pub use steps::{reach, Reached};

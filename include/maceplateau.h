@@ -1,0 +1,52 @@
+/* The segment workflow checker for C: two functions of bytes and lengths that give one number.
+ *
+ * Link target/staticlib/libchecker.a, which `rt staticlib checker` writes (x86-64 Linux). It needs memcpy and memset, nothing else.
+ *
+ * Both functions take any bytes of any length and always return. They read the two files, write nothing that the caller can see,
+ * allocate nothing and have no global state: calls in several threads do not disturb each other. A pointer may be NULL where its length is 0.
+ * Their working buffers lie on the stack, which must have MACEPLATEAU_REACH_STACK or MACEPLATEAU_ASK_STACK bytes left.
+ *
+ * Both return
+ *
+ *     0        never, no
+ *     1        reached, yes
+ *     100 + n  refused; n is
+ *
+ *       1  overlong    more bytes than allowed: 40,000 for a table, 309 for a target, 608 for a question
+ *       2  layout      a field or line not as the format has it, a line missing or too many
+ *       3  size        a count in line 1 outside its range
+ *       4  order       constants, or registers of one arc's lines 8, not rising
+ *       5  range       another number outside its range, or an unused field not 0
+ *       6  crowded     a ninth condition
+ *       7  no start    start conditions that no contents meet
+ *       8  forward     a question's row that names row 0, itself or a later one
+ *
+ * The table is judged before the other file, and each from its first line on. The refusals 9 (buffer) and 10 (no class) belong to
+ * other calls: these functions never return 109 or 110.
+ */
+#ifndef MACEPLATEAU_H
+#define MACEPLATEAU_H
+
+#include <stddef.h>
+#include <stdint.h>
+
+/* Bytes of stack that suffice for every call. Measured, tests/c/measure: reaching takes 0.28 MB, and from 800 steps on 0.23 MB and 64
+ * bytes for each step of the run (0.66 MB at 6,672 steps, 0.93 MB at most); a question takes 4.2 MB, whatever the table. */
+#define MACEPLATEAU_REACH_STACK ((size_t)1 << 20)
+#define MACEPLATEAU_ASK_STACK ((size_t)5 << 20)
+
+#ifdef __cplusplus
+extern "C" {
+#endif
+
+/* Do runs of the table reach the target? */
+uint32_t maceplateau_reach(const uint8_t *table, size_t table_length, const uint8_t *target, size_t target_length);
+
+/* Does the question hold at every permitted start of the table? */
+uint32_t maceplateau_ask(const uint8_t *table, size_t table_length, const uint8_t *question, size_t question_length);
+
+#ifdef __cplusplus
+}
+#endif
+
+#endif

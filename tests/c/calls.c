@@ -1,0 +1,111 @@
+/* The sample and damaged files through both functions, each in a thread with no more stack than the header asks for. */
+#include <maceplateau.h>
+#include <pthread.h>
+#include <stdio.h>
+#include <stdlib.h>
+#include <string.h>
+
+/* Register 1 translator, 2 reviser, constant 0 nobody. */
+static const char sample[] =
+    "     1     2     1     3     2     2\n"
+    "     2     0\n"
+    "     3     1\n"
+    "     3     1\n"
+    "     4     1\n"
+    "     5     1     1     1     3     1\n"
+    "     5     1     2     1     3     1\n"
+    "     6     1     1     2\n"
+    "     7     2     1     2     3     1\n"
+    "     8     1     2     1\n"
+    "     8     2     3     1\n"
+    "     6     2     2     3\n"
+    "     7     2     1     2     1     1\n"
+    "     7     2     1     2     3     1\n"
+    "     8     1     1     1\n"
+    "     8     2     2     1\n";
+
+static const char place_3[] = "     4     3\n";
+static const char registers_equal[] = "     4     3\n     5     1     1     1     1     2\n";
+static const char always_itself[] = "     2     1     1\n     8     1     0\n";
+static const char at_last_place_3[] = "     1     3     0\n    14     1     0\n";
+static const char names_itself[] = "     1     3     0\n    14     2     0\n";
+static const char place_4[] = "     4     4\n";
+
+typedef uint32_t function(const uint8_t *, size_t, const uint8_t *, size_t);
+
+struct call {
+    function *function;
+    const uint8_t *table, *other;
+    size_t table_length, other_length;
+    uint32_t reply;
+};
+
+static int differences;
+
+static void *run(void *argument)
+{
+    struct call *c = argument;
+    c->reply = c->function(c->table, c->table_length, c->other, c->other_length);
+    return NULL;
+}
+
+/* Calls in a thread of its own, and compares the reply. */
+static void expect(const char *what, uint32_t reply, function *f, const void *table, size_t table_length, const void *other,
+                   size_t other_length)
+{
+    struct call c = {f, table, other, table_length, other_length, 0};
+    size_t stack = f == maceplateau_ask ? MACEPLATEAU_ASK_STACK : MACEPLATEAU_REACH_STACK;
+    pthread_attr_t attributes;
+    pthread_t thread;
+    if (pthread_attr_init(&attributes) || pthread_attr_setstacksize(&attributes, stack)
+        || pthread_create(&thread, &attributes, run, &c) || pthread_join(thread, NULL)) {
+        perror("a thread");
+        exit(2);
+    }
+    pthread_attr_destroy(&attributes);
+    if (c.reply != reply) {
+        printf("%s: %u, expected %u\n", what, (unsigned)c.reply, (unsigned)reply);
+        differences++;
+    }
+}
+
+static void reach(const char *what, uint32_t reply, const char *table, const char *target)
+{
+    expect(what, reply, maceplateau_reach, table, strlen(table), target, strlen(target));
+}
+
+static void ask(const char *what, uint32_t reply, const char *table, const char *question)
+{
+    expect(what, reply, maceplateau_ask, table, strlen(table), question, strlen(question));
+}
+
+int main(void)
+{
+    char damaged[sizeof sample], sized[sizeof sample];
+    static char overlong[40001];
+    memcpy(damaged, sample, sizeof sample);
+    damaged[sizeof sample - 2] = ' ';
+    memcpy(sized, sample, sizeof sample);
+    sized[11] = '6';
+    memset(overlong, ' ', sizeof overlong);
+
+    reach("place 3", 1, sample, place_3);
+    reach("place 3 with registers equal", 0, sample, registers_equal);
+    ask("EG of register 1 = register 1", 0, sample, always_itself);
+    ask("AF place 3", 1, sample, at_last_place_3);
+
+    reach("reach, a damaged table", 102, damaged, place_3);
+    ask("ask, a damaged table", 102, damaged, at_last_place_3);
+    reach("reach, an empty table", 102, "", place_3);
+    ask("ask, an empty table", 102, "", at_last_place_3);
+    reach("an empty target", 102, sample, "");
+    ask("an empty question", 102, sample, "");
+    expect("reach, no pointers", 102, maceplateau_reach, NULL, 0, NULL, 0);
+    expect("ask, no pointers", 102, maceplateau_ask, NULL, 0, NULL, 0);
+    expect("reach, an overlong table", 101, maceplateau_reach, overlong, sizeof overlong, place_3, strlen(place_3));
+    expect("ask, an overlong question", 101, maceplateau_ask, sample, strlen(sample), overlong, 609);
+    reach("six registers", 103, sized, place_3);
+    reach("place 4 of 3", 105, sample, place_4);
+    ask("a row that names itself", 108, sample, names_itself);
+    return differences != 0;
+}

@@ -1,0 +1,264 @@
+//! The C functions on many inputs: valid and damaged, short and long, each compared with the engine.
+
+use engine::answer;
+use engine::counter::{counter, falling};
+use engine::generate::{case, Shape};
+use engine::mutate::mutate;
+use engine::print::fields;
+use engine::random::Random;
+use engine::read::Refusal;
+use engine::table::Row;
+use engine::write;
+
+/// Runs a test with the stack that a C program's first thread has.
+fn on_stack(test: fn()) {
+    let thread = std::thread::Builder::new().stack_size(8 << 20).spawn(test);
+    thread.expect("a thread").join().expect("the test");
+}
+
+fn code<T>(answer: &Result<T, Refusal>, yes: impl Fn(&T) -> bool) -> u32 {
+    match answer {
+        Ok(a) => yes(a) as u32,
+        Err(r) => 100 + r.number,
+    }
+}
+
+/// Both calls against the engine; the codes.
+fn compare(table: &[u8], target: &[u8], question: &[u8], what: &str) -> [u32; 2] {
+    let reached = code(&answer::reach(table, target, None), |a| a.reached);
+    let asked = code(&answer::ask(table, question, None), |a| a.yes);
+    assert_eq!(calls::reach(table, target), reached, "reach, {what}");
+    assert_eq!(calls::ask(table, question), asked, "ask, {what}");
+    [reached, asked]
+}
+
+struct Files {
+    table: Vec<u8>,
+    target: Vec<u8>,
+    question: Vec<u8>,
+}
+
+fn files(random: &mut Random, shape: Shape) -> Files {
+    let c = case(random, shape);
+    Files {
+        table: write::table(&c.table),
+        target: write::target(&c.target),
+        question: write::question(&c.question),
+    }
+}
+
+fn sample() -> Files {
+    let lines: [&[usize]; 16] = [
+        &[1, 2, 1, 3, 2, 2],
+        &[2, 0],
+        &[3, 1],
+        &[3, 1],
+        &[4, 1],
+        &[5, 1, 1, 1, 3, 1],
+        &[5, 1, 2, 1, 3, 1],
+        &[6, 1, 1, 2],
+        &[7, 2, 1, 2, 3, 1],
+        &[8, 1, 2, 1],
+        &[8, 2, 3, 1],
+        &[6, 2, 2, 3],
+        &[7, 2, 1, 2, 1, 1],
+        &[7, 2, 1, 2, 3, 1],
+        &[8, 1, 1, 1],
+        &[8, 2, 2, 1],
+    ];
+    Files {
+        table: lines.iter().map(|l| fields(l)).collect::<String>().into_bytes(),
+        target: (fields(&[4, 3]) + &fields(&[5, 1, 1, 2, 1, 2])).into_bytes(),
+        question: (fields(&[1, 3, 0]) + &fields(&[14, 1, 0])).into_bytes(),
+    }
+}
+
+#[test]
+fn the_sample() {
+    on_stack(|| {
+        let f = sample();
+        assert_eq!(compare(&f.table, &f.target, &f.question, "sample"), [1, 1]);
+    });
+}
+
+#[test]
+fn valid_files() {
+    on_stack(|| {
+        let mut seen = [0; 4];
+        for (shape, count) in [
+            (Shape::Tiny, 2000),
+            (Shape::Small, 600),
+            (Shape::Large, 40),
+            (Shape::Long, 12),
+            (Shape::Full, 4),
+        ] {
+            for seed in 0..count {
+                let f = files(&mut Random::new(50_000 + seed), shape);
+                let [r, a] = compare(&f.table, &f.target, &f.question, &format!("{shape:?} {seed}"));
+                seen[r as usize] += 1;
+                seen[2 + a as usize] += 1;
+            }
+        }
+        assert!(seen.iter().all(|&n| n > 100), "{seen:?}");
+    });
+}
+
+#[test]
+fn damaged_files() {
+    on_stack(|| {
+        let mut seen = [0; 9];
+        for seed in 0..4000 {
+            let mut random = Random::new(70_000 + seed);
+            let shape = if seed % 400 == 0 { Shape::Full } else { Shape::Tiny };
+            let mut f = files(&mut random, shape);
+            match random.below(3) {
+                0 => f.table = mutate(&mut random, &f.table),
+                1 => f.target = mutate(&mut random, &f.target),
+                _ => f.question = mutate(&mut random, &f.question),
+            }
+            for c in compare(&f.table, &f.target, &f.question, &format!("{seed}")) {
+                if c >= 100 {
+                    seen[c as usize - 100] += 1;
+                }
+            }
+        }
+        assert!(seen[1..].iter().all(|&n| n > 5), "{seen:?}");
+    });
+}
+
+/// Every beginning of each file of the sample.
+#[test]
+fn short_files() {
+    on_stack(|| {
+        let f = sample();
+        for n in 0..=f.table.len() {
+            compare(&f.table[..n], &f.target, &f.question, &format!("table of {n} bytes"));
+        }
+        for n in 0..=f.target.len() {
+            compare(&f.table, &f.target[..n], &f.question, &format!("target of {n} bytes"));
+        }
+        for n in 0..=f.question.len() {
+            compare(&f.table, &f.target, &f.question[..n], &format!("question of {n} bytes"));
+        }
+        compare(&[], &[], &[], "nothing");
+    });
+}
+
+/// Files at their limits, above them, and far above them.
+#[test]
+fn long_files() {
+    on_stack(|| {
+        let f = sample();
+        for n in [39_999, 40_000, 40_001, 40_002, 65_536, 1_000_000] {
+            for byte in [b' ', b'0', 10, 0, 255] {
+                let mut table = f.table.clone();
+                table.resize(n, byte);
+                compare(&table, &f.target, &f.question, &format!("table of {n} bytes"));
+            }
+        }
+        for n in [308, 309, 310, 311, 607, 608, 609, 610, 40_001, 1_000_000] {
+            let mut target = f.target.clone();
+            target.resize(n, 10);
+            let mut question = f.question.clone();
+            question.resize(n, 10);
+            compare(&f.table, &target, &question, &format!("others of {n} bytes"));
+        }
+        // As many good lines as fit, and one more.
+        for n in [8, 9] {
+            let target = (fields(&[4, 1]) + &fields(&[5, 1, 1, 1, 1, 1]).repeat(n)).into_bytes();
+            let question = fields(&[1, 1, 0]).repeat(4 * n).into_bytes();
+            compare(&f.table, &target, &question, &format!("{n} conditions"));
+        }
+        for n in [31, 32, 33] {
+            let question = fields(&[1, 1, 0]).repeat(n).into_bytes();
+            compare(&f.table, &f.target, &question, &format!("{n} rows"));
+        }
+    });
+}
+
+/// Every byte of the sample's files replaced by others.
+#[test]
+fn wrong_bytes() {
+    on_stack(|| {
+        let f = sample();
+        for byte in [0, 9, 10, 13, b' ', b'-', b'0', b'1', b'2', b'3', b'9', b'a', 255] {
+            for i in 0..f.table.len() {
+                let mut table = f.table.clone();
+                table[i] = byte;
+                compare(
+                    &table,
+                    &f.target,
+                    &f.question,
+                    &format!("byte {i} of the table is {byte}"),
+                );
+            }
+            for i in 0..f.target.len() {
+                let mut target = f.target.clone();
+                target[i] = byte;
+                compare(
+                    &f.table,
+                    &target,
+                    &f.question,
+                    &format!("byte {i} of the target is {byte}"),
+                );
+            }
+            for i in 0..f.question.len() {
+                let mut question = f.question.clone();
+                question[i] = byte;
+                compare(
+                    &f.table,
+                    &f.target,
+                    &question,
+                    &format!("byte {i} of the question is {byte}"),
+                );
+            }
+        }
+    });
+}
+
+/// The longest run that the counters give, and 10,784 rounds.
+#[test]
+fn long_work() {
+    on_stack(|| {
+        let (table, target) = counter(&mut Random::new(1), 5, 15, true);
+        let question = [(1, 1, 0), (12, 1, 0), (13, 2, 0)].map(|(kind, a, b)| Row { kind, a, b });
+        let (table, target) = (write::table(&table), write::target(&target));
+        assert_eq!(compare(&table, &target, &write::question(&question), "counter"), [1, 1]);
+        let (table, target) = falling();
+        let question = [(2, 1, 1), (8, 1, 0)].map(|(kind, a, b)| Row { kind, a, b });
+        let (table, target) = (write::table(&table), write::target(&target));
+        assert_eq!(compare(&table, &target, &write::question(&question), "falling"), [1, 0]);
+    });
+}
+
+/// The input is only read, wherever it lies, and calls in two threads do not disturb each other.
+#[test]
+fn only_read() {
+    let work = || {
+        for seed in 0..200 {
+            let f = files(&mut Random::new(90_000 + seed), Shape::Tiny);
+            // The three files side by side at an odd place.
+            let mut all = vec![b'7'; 3];
+            all.extend(&f.table);
+            all.extend(&f.target);
+            all.extend(&f.question);
+            all.push(b'7');
+            let before = all.clone();
+            let (t, g) = (3 + f.table.len(), 3 + f.table.len() + f.target.len());
+            let q = g + f.question.len();
+            compare(&all[3..t], &all[t..g], &all[g..q], &format!("{seed}"));
+            assert_eq!(all, before);
+        }
+    };
+    let threads: Vec<_> = (0..2)
+        .map(|_| {
+            std::thread::Builder::new()
+                .stack_size(8 << 20)
+                .spawn(work)
+                .expect("a thread")
+        })
+        .collect();
+    for t in threads {
+        t.join().expect("the test");
+    }
+}
