@@ -292,10 +292,9 @@ fn line(numbers: &[usize]) -> String {
     crate::print::fields(numbers)
 }
 
-/// Document 01's examples that carry no star, some that do, and its habits to lose, each with what the document says of
-/// the replies: the first fields of reaching and of asking.
-fn examples() -> Vec<Files> {
-    let sample = concat_lines(&[
+/// Document 01's sample, its sixteen lines.
+pub fn sample_table() -> Vec<u8> {
+    concat_lines(&[
         &[1, 2, 1, 3, 2, 2],
         &[2, 0],
         &[3, 1],
@@ -312,7 +311,13 @@ fn examples() -> Vec<Files> {
         &[7, 2, 1, 2, 3, 1],
         &[8, 1, 1, 1],
         &[8, 2, 2, 1],
-    ]);
+    ])
+}
+
+/// Document 01's examples that carry no star, some that do, and its habits to lose, each with what the document says of
+/// the replies: the first fields of reaching and of asking.
+fn examples() -> Vec<Files> {
+    let sample = sample_table();
     let without = |left_out: &[usize]| {
         let gone = line(left_out).into_bytes();
         let at = sample

@@ -8,6 +8,7 @@ use engine::print::fields;
 use engine::random::Random;
 use engine::read::Refusal;
 use engine::table::Row;
+use engine::trials::sample_table;
 use engine::write;
 
 /// Runs a test with the stack that a C program's first thread has.
@@ -48,26 +49,8 @@ fn files(random: &mut Random, shape: Shape) -> Files {
 }
 
 fn sample() -> Files {
-    let lines: [&[usize]; 16] = [
-        &[1, 2, 1, 3, 2, 2],
-        &[2, 0],
-        &[3, 1],
-        &[3, 1],
-        &[4, 1],
-        &[5, 1, 1, 1, 3, 1],
-        &[5, 1, 2, 1, 3, 1],
-        &[6, 1, 1, 2],
-        &[7, 2, 1, 2, 3, 1],
-        &[8, 1, 2, 1],
-        &[8, 2, 3, 1],
-        &[6, 2, 2, 3],
-        &[7, 2, 1, 2, 1, 1],
-        &[7, 2, 1, 2, 3, 1],
-        &[8, 1, 1, 1],
-        &[8, 2, 2, 1],
-    ];
     Files {
-        table: lines.iter().map(|l| fields(l)).collect::<String>().into_bytes(),
+        table: sample_table(),
         target: (fields(&[4, 3]) + &fields(&[5, 1, 1, 2, 1, 2])).into_bytes(),
         question: (fields(&[1, 3, 0]) + &fields(&[14, 1, 0])).into_bytes(),
     }

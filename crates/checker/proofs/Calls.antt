@@ -24,12 +24,8 @@ use Rattle.checker.specs.declared.Number.the-variants.{Refused as noNumb
 use Rattle.checker.specs.declared.Written.the-variants.{Refused as notWritten, Done}
 use Rattle.checker.specs.Refusals.{firstOf, buffer, size, order, range, noClass, doneUnless}
 use Rattle.checker.specs.Counts.{classOfReply, listOf, contentsOfRefusal, contentsOfOut, matrixOfRefusal, matrixOfOut, listFound, contentsOfMatrixRefusal, contentsOfMatrixOut, matrixOfClassRefusal, matrixOfClassOut, classOfMatrixReply}
+use Rattle.checker.proofs.Tests.{both}
 use Rattle.checker.proofs.Turned.{first-more, first-kept, range-fits, range-fails, lists-pass, counts-pass, number-refused, number-is, write-refused, write-done}
-
-both : (p q : Bool) → (p && q) ≡ true → (p ≡ true) × (q ≡ true)
-both true true e = (refl, refl)
-both true false e = let z : _≡_ {A = ℕ} 0 1 = cc in absurd (omega arith)
-both false q e = let z : _≡_ {A = ℕ} 0 1 = cc in absurd (omega arith)
 
 -- The lists of the tests
 

@@ -1,4 +1,5 @@
 -- What the public calls promise in words of runs, and the lemmas of the functions' proofs.
+pub mod Tests
 pub mod Opening
 pub mod Turned
 pub mod Calls

@@ -9,14 +9,14 @@ ghost use Rattle.relation.specs.Labels.{Lent};
 ghost use Rattle.catalogue.specs.Arrays.{padded};
 ghost use Rattle.checker.specs.Asking.{classContents};
 
-pub fn wide(n: u32) -> usize
+pub(crate) fn wide(n: u32) -> usize
     ensures { λ r. ⌜ r ≡ n ⌝ }
 {
     n as usize
 }
 
 // The contents given back for class k of a table; zeros after them.
-pub fn class_contents(form: &[u32], cat: &[u8], n: usize, k: usize) -> [u32; 5]
+pub(crate) fn class_contents(form: &[u32], cat: &[u8], n: usize, k: usize) -> [u32; 5]
     requires { ⌜ Lent (now form) (now cat) n × (k < n) ⌝ }
     ensures { λ r. ⌜ r ≡ padded (classContents (automatonOf (now (form .entry))) k) ⌝ }
 {
@@ -28,7 +28,7 @@ pub fn class_contents(form: &[u32], cat: &[u8], n: usize, k: usize) -> [u32; 5]
 }
 
 // The number of a table's classes.
-pub fn classes_in(form: &[u32]) -> usize
+pub(crate) fn classes_in(form: &[u32]) -> usize
     requires { ⌜ Readable (now form) ⌝ }
     ensures { λ r. ⌜ r ≡ length (classes (automatonOf (now (form .entry)))) ⌝ }
 {

@@ -26,7 +26,7 @@ use Rattle.arcs.specs.Slots.{padded}
 use Rattle.arcs.proofs.Forms.{Limits, form-limits}
 use Rattle.tables.specs.Opening.{openTable}
 use Rattle.tables.proofs.Opened.{opened-readable}
-use Rattle.witness.specs.Printed.{slotted, linesFrom, withLines, reachedCount}
+use Rattle.witness.specs.Printed.{slotted, linesFrom, withLines, reachedCount, momentNumbers}
 use Rattle.witness.proofs.Judged.{printed-right}
 use Rattle.checker.specs.Files.{Files, withTarget, afterTable, reachFiles}
 use Rattle.checker.specs.Files.Files.{read}
@@ -34,7 +34,7 @@ use Rattle.checker.specs.Reaching.{foundReply, reachReply, reachLines}
 use Rattle.checker.proofs.Targeted.{opened-read, reach-roomy}
 use Rattle.printout.specs.Text.{line, shown, moments}
 use Rattle.printout.specs.Answers.{reachText, reachPrintout}
-use Rattle.printout.specs.Document.{momentNumbers, momentsNumbers, documentLines, inLines}
+use Rattle.printout.specs.Document.{momentsNumbers, documentLines, inLines}
 
 -- Slots
 

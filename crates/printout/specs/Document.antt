@@ -5,14 +5,10 @@ use mathlib.Core.List.{List, [], _∷_, _++_}
 use mathlib.Core.Option.{Option, none, some}
 use Rattle.graphs.specs.Search.{Walk, steps}
 use Rattle.automata.specs.Automaton.{Automaton}
-use Rattle.automata.specs.Runs.{Move, transitionOf}
+use Rattle.automata.specs.Runs.{Move}
 use Rattle.moves.specs.Runs.{walkContents, walkMoves}
-use Rattle.witness.specs.Printed.{reachedCount}
+use Rattle.witness.specs.Printed.{reachedCount, momentNumbers}
 use Rattle.printout.specs.Text.{line}
-
--- a moment: its number, the transition, the location that it leads to, each register, each parameter
-abbrev pub momentNumbers : Automaton → ℕ → Move → List ℕ
-momentNumbers a k m = k ∷ m .transition ∷ transitionOf a (m .transition) .to ∷ (m .valuation ++ m .parameters)
 
 -- the moments from k on
 abbrev pub momentsNumbers : Automaton → ℕ → List Move → List (List ℕ)
