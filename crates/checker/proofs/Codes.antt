@@ -11,8 +11,8 @@ use Rattle.graphs.specs.Search.{Walk}
 use Rattle.automata.specs.Automaton.{Automaton}
 use Rattle.automata.specs.Questions.{question}
 use Rattle.automata.specs.Answers.{nearestTo, failing}
-use Rattle.reader.specs.Form.{automatonOf, targetOf}
-use Rattle.questions.specs.Form.{rowsOf}
+use Rattle.forms.specs.TableForm.{automatonOf, targetOf}
+use Rattle.forms.specs.QuestionForm.{rowsOf}
 use Rattle.checker.specs.Files.{Files, targetFiles, questionFiles, reachFiles, searchRoom, askFiles}
 use Rattle.checker.specs.Files.Files.{read, turned}
 use Rattle.checker.specs.Reaching.{foundReply, reachReply}

@@ -11,13 +11,13 @@ use Rattle.classes.specs.Classes.{Legal, contents}
 use Rattle.classes.proofs.Catalogue.{lists-mem}
 use Rattle.automata.specs.WellFormed.{constantCount}
 use Rattle.automata.specs.Configurations.{classes}
-use Rattle.reader.specs.Form.{cell, automatonOf}
-use Rattle.arcs.specs.Readable.{Readable}
-use Rattle.arcs.proofs.Forms.{form-limits, constant-count}
-use Rattle.relation.specs.Labels.{Lent}
+use Rattle.forms.specs.TableForm.{cell, automatonOf}
+use Rattle.forms.specs.Readable.{Readable}
+use Rattle.forms.proofs.Forms.{form-limits, constant-count}
+use Rattle.forms.specs.ClassLabels.{Lent}
 use Rattle.runs.proofs.Laws.{constants-are}
 use Rattle.catalogue.specs.Arrays.{padded}
-use Rattle.tables.proofs.Labels.{counts-few}
+use Rattle.opening.proofs.Labels.{counts-few}
 use Rattle.checker.specs.Asking.{classContents}
 
 -- a list of at most five numbers, read entry by entry

@@ -9,10 +9,10 @@ use borrow.Author.Tests.{le-leb, lt-leb}
 use lib.Dec.{T, leb}
 use lib.ListN.{length}
 use Rattle.automata.specs.WellFormed.{fitsQuestion}
-use Rattle.reader.specs.Form.{cell, automatonOf}
+use Rattle.forms.specs.TableForm.{cell, automatonOf}
 use Rattle.reader.specs.Table.Outcome.{table, refused}
-use Rattle.arcs.proofs.Forms.{constant-count}
-use Rattle.questions.specs.Form.{rowsOf}
+use Rattle.forms.proofs.Forms.{constant-count}
+use Rattle.forms.specs.QuestionForm.{rowsOf}
 use Rattle.questions.specs.Question.{Outcome, readQuestion}
 use Rattle.questions.specs.Question.Outcome.{rows, refused as not-asked}
 use Rattle.questions.specs.Reply.{replyOf, formOf}
@@ -20,7 +20,7 @@ use Rattle.questions.specs.declared.Reply.{Reply}
 use Rattle.questions.specs.declared.Reply.the-variants.{Accepted, Refused}
 use Rattle.questions.proofs.Fits.{question-form}
 use Rattle.questions.proofs.Outcomes.{accepted-rows}
-use Rattle.tables.specs.Opening.{openTable}
+use Rattle.opening.specs.Opening.{openTable}
 use Rattle.checker.specs.Files.{Files, withTarget, withQuestion, afterTable, targetFiles, questionFiles, roomFor, rowsRoom, askFiles}
 use Rattle.checker.specs.Files.Files.{read, turned}
 use Rattle.checker.proofs.Opening.{Opened}

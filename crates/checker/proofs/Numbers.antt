@@ -11,19 +11,19 @@ use lib.ListN.{length, getD}
 use Rattle.fields.specs.Format.{fields, padded, pieces}
 use Rattle.automata.specs.Questions.{Row, Use, kindOf}
 use Rattle.automata.specs.Questions.Use.{locationNumber, registerNumber, constantNumber, rowNumber, unused}
-use Rattle.starts.specs.Startable.{startable}
+use Rattle.conditions.specs.Startable.{startable}
 use Rattle.reader.specs.declared.Progress.{Progress}
-use Rattle.reader.specs.Form.{cell, automatonOf}
+use Rattle.forms.specs.TableForm.{cell, automatonOf}
 use Rattle.reader.specs.Rules.{crowded, inRange, inOrder, expected, judgeValues, judgeLine, judge, accepted, placed, complete}
 use Rattle.reader.specs.Table.{Outcome, rowOf, readLines, readFile, blankForm, readTable, readTarget}
 use Rattle.reader.specs.Table.Outcome.{table, refused}
 use Rattle.questions.specs.declared.Counts.{Counts}
 use Rattle.questions.specs.Rules.{firstOf, judgeField, judgeRow}
-use Rattle.questions.specs.Form.{noRows, put}
+use Rattle.forms.specs.QuestionForm.{noRows, put}
 use Rattle.questions.specs.Question.{three, readQuestion, counts}
 use Rattle.questions.specs.Question as question-file
 use Rattle.questions.specs.Question.Outcome.{rows, refused as not-asked}
-use Rattle.tables.specs.Opening.{withStart, openTable}
+use Rattle.opening.specs.Opening.{withStart, openTable}
 use Rattle.checker.specs.Files.{Files, withTarget, withQuestion, afterTable, targetFiles, questionFiles}
 use Rattle.checker.specs.Files.Files.{read, turned}
 

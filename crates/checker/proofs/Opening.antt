@@ -9,21 +9,21 @@ use native.Mathlib.Omega.{arith}
 use lib.ListN.{length, getD, drop, replicate, length-replicate}
 use lib.Seq.{getD-append-add, getD-drop}
 use Rattle.automata.specs.Configurations.{classes}
-use Rattle.reader.specs.Form.{cell, automatonOf}
+use Rattle.forms.specs.TableForm.{cell, automatonOf}
 use Rattle.reader.specs.Table.{Outcome}
 use Rattle.reader.specs.Table.Outcome.{table, refused}
 use Rattle.reader.specs.Reply.{replyOf, formOf}
 use Rattle.reader.specs.declared.Reply.{Reply}
 use Rattle.reader.specs.declared.Reply.the-variants.{Accepted, Refused}
-use Rattle.arcs.specs.Readable.{Readable}
+use Rattle.forms.specs.Readable.{Readable}
 use Rattle.catalogue.specs.Serving.{labelRows}
 use Rattle.catalogue.proofs.LabelRows.{label-rows-small, label-rows-length}
 use Rattle.catalogue.proofs.Buffers.{written-entry, written-length}
-use Rattle.tables.specs.Opening.{openTable, labelsOf, classLabels}
-use Rattle.tables.proofs.Opened.{opened-readable}
-use Rattle.tables.proofs.Labels.{counts-few, labels-held, classes-most}
-use Rattle.starts.specs.Values.{ClassLabels}
-use Rattle.relation.specs.Labels.{Lent}
+use Rattle.opening.specs.Opening.{openTable, labelsOf, classLabels}
+use Rattle.opening.proofs.Opened.{opened-readable}
+use Rattle.opening.proofs.Labels.{counts-few, labels-held, classes-most}
+use Rattle.conditions.specs.Values.{ClassLabels}
+use Rattle.forms.specs.ClassLabels.{Lent}
 
 -- the table of these bytes has the form t, and the labels of its classes are cat
 pub record Opened (s t cat : List ℕ) : Type 0 where

@@ -11,7 +11,7 @@ use borrow.Author.Tests.{leb-true, le-leb, lt-leb, eqb-true, eq-eqb}
 use lib.Dec.{T, eqb, leb}
 use lib.ListN.{length, replicate}
 use Rattle.automata.specs.Runs.{Move, isRun}
-use Rattle.reader.specs.Form.{automatonOf}
+use Rattle.forms.specs.TableForm.{automatonOf}
 use Rattle.reader.specs.Reply.{formOf}
 use Rattle.reader.specs.Table.{Outcome}
 use Rattle.reader.specs.Table.Outcome.{table, refused}
@@ -21,8 +21,8 @@ use Rattle.replay.specs.declared.Verdict.the-variants.{Bad as bad, Good as good
 use Rattle.replay.specs.Judge.{Whole, startIn, stepsIn, judge, judgeFlat, flatRun, goodRun, FirstBad}
 use Rattle.replay.proofs.Verdicts.{judge-means}
 use Rattle.replay.proofs.Flat.{judge-good, run-whole}
-use Rattle.tables.specs.Opening.{openTable}
-use Rattle.tables.proofs.Opened.{opened-readable}
+use Rattle.opening.specs.Opening.{openTable}
+use Rattle.opening.proofs.Opened.{opened-readable}
 use Rattle.checker.specs.declared.Opened.{Opened}
 use Rattle.checker.specs.declared.Replayed.{Replayed}
 use Rattle.checker.specs.declared.Replayed.the-variants.{Good, Bad, Refused}

@@ -9,8 +9,8 @@ use Rattle.automata.specs.Automaton.{Automaton}
 use Rattle.automata.specs.Questions.{rowFormulas, question}
 use Rattle.automata.specs.Configurations.{classes}
 use Rattle.automata.specs.Answers.{failing}
-use Rattle.reader.specs.Form.{automatonOf}
-use Rattle.questions.specs.Form.{rowsOf}
+use Rattle.forms.specs.TableForm.{automatonOf}
+use Rattle.forms.specs.QuestionForm.{rowsOf}
 use Rattle.catalogue.specs.Arrays.{padded}
 use Rattle.formulas.specs.Rows.{shown}
 use Rattle.checker.specs.Files.{Files}

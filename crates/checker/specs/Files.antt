@@ -4,14 +4,14 @@ use Prim.Native.Nat.{ℕ}
 use mathlib.Core.Bool.{Bool, cond, _&&_}
 use mathlib.Core.List.{List}
 use lib.Dec.{leb}
-use Rattle.reader.specs.Form.{cell}
+use Rattle.forms.specs.TableForm.{cell}
 use Rattle.reader.specs.Table.{readTarget}
 use Rattle.reader.specs.Table as table-file
 use Rattle.reader.specs.Table.Outcome.{table, refused}
 use Rattle.questions.specs.Question.{readQuestion}
 use Rattle.questions.specs.Question as question-file
 use Rattle.questions.specs.Question.Outcome.{rows, refused as not-asked}
-use Rattle.tables.specs.Opening.{openTable}
+use Rattle.opening.specs.Opening.{openTable}
 
 -- a table's form with the form of the other file, and how many rows that has (0 for a target); or a refusal: its number, file and line
 pub data Files : Type 0 where

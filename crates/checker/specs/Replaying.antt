@@ -5,14 +5,14 @@ use mathlib.Core.Bool.{Bool, true, false, _&&_, cond}
 use mathlib.Core.List.{List, [], _∷_}
 use lib.Dec.{eqb, leb}
 use lib.ListN.{length, replicate}
-use Rattle.reader.specs.Form.{automatonOf}
+use Rattle.forms.specs.TableForm.{automatonOf}
 use Rattle.reader.specs.Table.{Outcome}
 use Rattle.reader.specs.Table.Outcome.{table, refused}
 use Rattle.replay.specs.declared.Step.{Step}
 use Rattle.replay.specs.declared.Verdict.{Verdict}
 use Rattle.replay.specs.declared.Verdict.the-variants.{Bad as bad, Good as good}
 use Rattle.replay.specs.Judge.{judge, judgeFlat}
-use Rattle.tables.specs.Opening.{openTable}
+use Rattle.opening.specs.Opening.{openTable}
 use Rattle.checker.specs.declared.Opened.{Opened}
 use Rattle.checker.specs.declared.Replayed.{Replayed}
 use Rattle.checker.specs.declared.Replayed.the-variants.{Good, Bad, Refused}

@@ -1,7 +1,7 @@
 // The checker's public calls: none asks anything of its caller, and each determines its reply and every lent buffer.
 pub mod counts;
 pub mod editor;
-mod forms;
+mod given;
 pub mod goal;
 pub mod question;
 pub mod replaying;

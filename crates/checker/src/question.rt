@@ -7,17 +7,17 @@ ghost use Rattle.automata.specs.Questions.{question as asked, rowFormulas};
 ghost use Rattle.automata.specs.Configurations.{classes};
 ghost use Rattle.automata.specs.Answers.{failing};
 ghost use Rattle.automata.specs.WellFormed.{fitsQuestion};
-ghost use Rattle.reader.specs.Form.{automatonOf};
-ghost use Rattle.questions.specs.Form.{rowsOf};
-ghost use Rattle.relation.specs.Labels.{Lent};
+ghost use Rattle.forms.specs.TableForm.{automatonOf};
+ghost use Rattle.forms.specs.QuestionForm.{rowsOf};
+ghost use Rattle.forms.specs.ClassLabels.{Lent};
 ghost use Rattle.formulas.specs.Rows.{shown};
 ghost use Rattle.checker.specs.Files.{askFiles};
 ghost use Rattle.checker.specs.Asking.{askedReply, askedContents, askReply, askRows, askContents};
 ghost use Rattle.checker.specs.Demand.{AskMeans};
 use crate::Asking;
-use crate::forms::class_contents;
-use crate::forms::classes_in;
-use crate::forms::wide;
+use crate::given::class_contents;
+use crate::given::classes_in;
+use crate::given::wide;
 
 // Asks a question of an opened table, over memory for its step rows.
 fn answer_over(
@@ -76,7 +76,7 @@ pub fn ask(table: &[u8], question: &[u8], rows: &mut [u32], contents: &mut [u32;
     }
     let mut form = [0u32; 5544];
     let mut labels = [0u8; 3370];
-    let opened = tables::open_table(table, &mut form, &mut labels);
+    let opened = opening::open_table(table, &mut form, &mut labels);
     match opened {
         reader::Reply::Refused { number, file, line } => Asking::Refused {
             number: number,

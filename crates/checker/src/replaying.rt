@@ -1,7 +1,7 @@
 // Replaying a run of a table: its length, the table's refusals, and then the verdict.
 ghost use mathlib.Core.Path.{_≡_};
 ghost use lib.ListN.{length};
-ghost use Rattle.tables.specs.Opening.{openTable};
+ghost use Rattle.opening.specs.Opening.{openTable};
 ghost use Rattle.checker.specs.Replaying.{wholeLength, replied, replayReply, replayStepsReply, openedOf, openedRefusal};
 use crate::Opened;
 use crate::Replayed;
@@ -41,7 +41,7 @@ pub fn replay(table: &[u8], run: &[u32]) -> Replayed
     }
     let mut form = [0u32; 5544];
     let mut labels = [0u8; 3370];
-    let reply = tables::open_table(table, &mut form, &mut labels);
+    let reply = opening::open_table(table, &mut form, &mut labels);
     match reply {
         Reply::Accepted => reply_of(replay::replay(&form, run)),
         Reply::Refused { number, file, line } => Replayed::Refused {
@@ -57,7 +57,7 @@ fn opening(table: &[u8]) -> Opened
 {
     let mut form = [0u32; 5544];
     let mut labels = [0u8; 3370];
-    let reply = tables::open_table(table, &mut form, &mut labels);
+    let reply = opening::open_table(table, &mut form, &mut labels);
     match reply {
         Reply::Accepted => Opened {
             refused: false,

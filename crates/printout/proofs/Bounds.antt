@@ -14,18 +14,18 @@ use Rattle.automata.specs.Runs.{Target}
 use Rattle.automata.specs.Questions.{Atom, question}
 use Rattle.automata.specs.Configurations.{classes}
 use Rattle.automata.specs.Answers.{nearestTo, failsAt, failing}
-use Rattle.reader.specs.Form.{cell, automatonOf, targetOf}
+use Rattle.forms.specs.TableForm.{cell, automatonOf, targetOf}
 use Rattle.reader.specs.Table.{readTarget}
 use Rattle.reader.specs.Table as table-file
 use Rattle.reader.specs.Table.Outcome.{table, refused}
-use Rattle.questions.specs.Form.{rowsOf}
+use Rattle.forms.specs.QuestionForm.{rowsOf}
 use Rattle.questions.specs.Question.{readQuestion}
 use Rattle.questions.specs.Question as question-file
 use Rattle.questions.specs.Question.Outcome.{rows, refused as not-asked}
-use Rattle.arcs.specs.Readable.{Readable}
-use Rattle.tables.specs.Opening.{openTable}
-use Rattle.tables.proofs.Opened.{opened-readable}
-use Rattle.tables.proofs.Labels.{classes-most, classes-are, counts-few}
+use Rattle.forms.specs.Readable.{Readable}
+use Rattle.opening.specs.Opening.{openTable}
+use Rattle.opening.proofs.Opened.{opened-readable}
+use Rattle.opening.proofs.Labels.{classes-most, classes-are, counts-few}
 use Rattle.witness.proofs.Finding.{few-steps}
 use Rattle.checker.specs.Files.{withTarget, withQuestion, afterTable, targetFiles, questionFiles, roomFor, searchRoom, rowsRoom, reachFiles, askFiles}
 use Rattle.checker.specs.Reaching.{foundReply, reachReply}

@@ -17,15 +17,15 @@ use Rattle.automata.specs.Runs.{State, Move, Target, transitionOf, isStep, afte
 use Rattle.automata.specs.Answers.{nearestTo}
 use Rattle.automata.specs.WellFormed.{fitsTarget}
 use Rattle.moves.specs.Runs.{walkContents, walkMoves}
-use Rattle.reader.specs.Form.{automatonOf, targetOf}
+use Rattle.forms.specs.TableForm.{automatonOf, targetOf}
 use Rattle.reader.specs.Table.{readTarget}
 use Rattle.reader.specs.Table.Outcome.{table}
 use Rattle.reader.proofs.WellFormed.{target-fits}
-use Rattle.arcs.specs.Readable.{Readable}
-use Rattle.arcs.specs.Slots.{padded}
-use Rattle.arcs.proofs.Forms.{Limits, form-limits}
-use Rattle.tables.specs.Opening.{openTable}
-use Rattle.tables.proofs.Opened.{opened-readable}
+use Rattle.forms.specs.Readable.{Readable}
+use Rattle.forms.specs.Slots.{padded}
+use Rattle.forms.proofs.Forms.{Limits, form-limits}
+use Rattle.opening.specs.Opening.{openTable}
+use Rattle.opening.proofs.Opened.{opened-readable}
 use Rattle.witness.specs.Printed.{slotted, linesFrom, withLines, reachedCount, momentNumbers}
 use Rattle.witness.proofs.Judged.{printed-right}
 use Rattle.checker.specs.Files.{Files, withTarget, afterTable, reachFiles}

@@ -1,5 +1,5 @@
 -- The theorems that other crates cite.
-pub mod KindTable
+pub mod Judged
 pub mod Simulation
 pub mod Outcomes
 pub mod Fits

@@ -9,7 +9,7 @@ use lib.ListN.{length}
 use lib.Dec.{eqb}
 use Rattle.questions.specs.declared.Reader.{Reader}
 use Rattle.questions.specs.declared.Reply.the-variants.{Accepted, Refused}
-use Rattle.questions.specs.Form.{noRows}
+use Rattle.forms.specs.QuestionForm.{noRows}
 use Rattle.questions.specs.Question.{Outcome, counts, readQuestion}
 use Rattle.questions.specs.Question.Outcome.{rows, refused}
 use Rattle.questions.specs.Machine.{between, ending, run}

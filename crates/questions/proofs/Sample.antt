@@ -9,7 +9,7 @@ use Rattle.automata.specs.Questions.{Atom, question}
 use Rattle.automata.specs.Questions.Atom.{at, equal}
 use Rattle.fields.specs.Format.{glyphOf}
 use Rattle.questions.specs.Rules.{judgeField, judgeRow}
-use Rattle.questions.specs.Form.{put, rowsOf}
+use Rattle.forms.specs.QuestionForm.{put, rowsOf}
 use Rattle.questions.specs.Question.{Outcome, readQuestion}
 use Rattle.questions.specs.Question.Outcome.{rows, refused}
 

@@ -16,7 +16,7 @@ use Rattle.fields.specs.declared.Line.{Line}
 use Rattle.fields.proofs.Simulation.{line-run}
 use Rattle.questions.specs.declared.Counts.{Counts}
 use Rattle.questions.specs.declared.Reader.{Reader}
-use Rattle.questions.specs.Form.{noRows, put}
+use Rattle.forms.specs.QuestionForm.{noRows, put}
 use Rattle.questions.specs.Question.{Outcome, three, judged, onLine, readLines}
 use Rattle.questions.specs.Question.Outcome.{refused}
 use Rattle.questions.specs.Machine.{rowRead, judgeRead, between, afterLine, formAfterLine, fed, wrote, ending, run}

@@ -11,7 +11,7 @@ use Rattle.automata.specs.Questions.{Row}
 use Rattle.questions.specs.declared.Counts.{Counts}
 use Rattle.questions.specs.declared.Reader.{Reader}
 use Rattle.questions.specs.Rules.{judgeRow}
-use Rattle.questions.specs.Form.{row, put}
+use Rattle.forms.specs.QuestionForm.{row, put}
 use Rattle.questions.specs.Question.{Outcome}
 use Rattle.questions.specs.Question.Outcome.{rows, refused}
 

@@ -10,7 +10,7 @@ use Rattle.fields.specs.Format.{fields, pieces}
 use Rattle.automata.specs.Questions.{Row}
 use Rattle.questions.specs.declared.Counts.{Counts}
 use Rattle.questions.specs.Rules.{judgeRow}
-use Rattle.questions.specs.Form.{row, noRows, put}
+use Rattle.forms.specs.QuestionForm.{row, noRows, put}
 
 -- the form and the number of the rows that are read, or a refusal with its number and line
 pub data Outcome : Type 0 where

@@ -1,83 +1,16 @@
-// The reader of questions: what the fields of each kind of row name, the rules for a row, and a machine that reads the bytes one at a time.
+// The reader of questions: the rules for a row, and a machine that reads the bytes one at a time.
 ghost use mathlib.Core.Path.{_≡_};
 ghost use mathlib.Core.List.{List};
 ghost use Prim.Native.Nat.{ℕ, _^_, _≤_};
 ghost use lib.ListN.{length, set};
-ghost use Rattle.questions.specs.Shapes.{useOf, shape, shapeOf};
+ghost use Rattle.forms.specs.Shapes.{useOf};
 ghost use Rattle.questions.specs.Rules.{judgeNumber, judgeField, judgeRow};
-ghost use Rattle.questions.specs.Form.{row, noRows, put};
+ghost use Rattle.forms.specs.QuestionForm.{row, noRows, put};
 ghost use Rattle.questions.specs.Question.{counts, readQuestion};
 ghost use Rattle.questions.specs.Reply.{replyOf, formOf};
 ghost use Rattle.questions.specs.Machine.{judgeRead, between, afterLine, formAfterLine, fed, wrote, ending, run};
 use fields::Line;
-
-// What a field of a row names. A location is document 01's place.
-pub enum Use {
-    Location,
-    Register,
-    Constant,
-    Row,
-    Unused,
-}
-
-// The rule that gives the set of a row.
-pub enum Rule {
-    At,
-    Equal,
-    Is,
-    Not,
-    And,
-    Ex,
-    Until,
-    Globally,
-    Or,
-    Implies,
-    AllNext,
-    Finally,
-    AllGlobally,
-    AllFinally,
-    Truth,
-}
-
-// A kind of row: what its fields name, and its rule.
-pub struct Shape {
-    pub first: Use,
-    pub second: Use,
-    pub rule: Rule,
-}
-
-fn shaped(first: Use, second: Use, rule: Rule) -> Shape
-    ensures { λ r. ⌜ r ≡ shape first second rule ⌝ }
-{
-    Shape {
-        first: first,
-        second: second,
-        rule: rule,
-    }
-}
-
-// The shape of a kind; a number that is no kind names nothing and is true.
-pub fn shape_of(kind: u32) -> Shape
-    ensures { λ r. ⌜ r ≡ shapeOf kind ⌝ }
-{
-    match kind {
-        1 => shaped(Use::Location, Use::Unused, Rule::At),
-        2 => shaped(Use::Register, Use::Register, Rule::Equal),
-        3 => shaped(Use::Register, Use::Constant, Rule::Is),
-        4 => shaped(Use::Row, Use::Unused, Rule::Not),
-        5 => shaped(Use::Row, Use::Row, Rule::And),
-        6 => shaped(Use::Row, Use::Unused, Rule::Ex),
-        7 => shaped(Use::Row, Use::Row, Rule::Until),
-        8 => shaped(Use::Row, Use::Unused, Rule::Globally),
-        9 => shaped(Use::Row, Use::Row, Rule::Or),
-        10 => shaped(Use::Row, Use::Row, Rule::Implies),
-        11 => shaped(Use::Row, Use::Unused, Rule::AllNext),
-        12 => shaped(Use::Row, Use::Unused, Rule::Finally),
-        13 => shaped(Use::Row, Use::Unused, Rule::AllGlobally),
-        14 => shaped(Use::Row, Use::Unused, Rule::AllFinally),
-        _ => shaped(Use::Unused, Use::Unused, Rule::Truth),
-    }
-}
+use forms::Use;
 
 // How many registers, constants and locations the table has.
 pub struct Counts {
@@ -119,7 +52,7 @@ fn judge_row(c: Counts, n: u32, k: u32, a: u32, b: u32) -> u32
     ensures { λ r. ⌜ r ≡ judgeRow c n (row k a b) ⌝ }
 {
     if (1 <= k) & (k <= 14) {
-        let s = shape_of(k);
+        let s = forms::shape_of(k);
         let u = s.first;
         let v = s.second;
         let x = judge_field(c, n, u, a);

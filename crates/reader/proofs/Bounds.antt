@@ -9,7 +9,7 @@ use Rattle.reader.specs.declared.Reader.{Reader}
 use Rattle.fields.specs.Scan.{closed}
 use Rattle.reader.specs.Machine.{judgeRead, afterLine, fed, Small}
 use Rattle.reader.specs.declared.Progress.{Progress}
-use Rattle.reader.specs.Form.{cell}
+use Rattle.forms.specs.TableForm.{cell}
 use Rattle.reader.specs.Rules.{at, home, advance}
 
 -- a choice between two numbers is at most m where both are

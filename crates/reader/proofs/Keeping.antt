@@ -12,7 +12,7 @@ use native.Mathlib.Omega.{arith}
 use lib.Dec.{leb, eqb}
 use lib.ListN.{length}
 use Rattle.reader.specs.declared.Progress.{Progress}
-use Rattle.reader.specs.Form.{cell}
+use Rattle.forms.specs.TableForm.{cell}
 use Rattle.reader.specs.Rules.{at, home, put, advance, accepted, placed}
 use Rattle.reader.proofs.Accepted.{Inside, Stands, line1, line2, line3, line4, line5, line6, line7, line8}
 use Rattle.reader.proofs.Rows.{rowAt, six, length-put, kept, written, Low, low-put}

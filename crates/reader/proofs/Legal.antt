@@ -11,7 +11,7 @@ use lib.Dec.{leb, ltb, eqb}
 use lib.ListN.{length, replicate, length-replicate}
 use Rattle.fields.specs.Format.{fields, padded, pieces}
 use Rattle.reader.specs.declared.Progress.{Progress}
-use Rattle.reader.specs.Form.{cell}
+use Rattle.forms.specs.TableForm.{cell}
 use Rattle.reader.specs.Rules.{at, judgeLine, judge, advance, accepted, placed, atStart, beforeTarget, complete}
 use Rattle.reader.specs.Table.{judged, rowOf, readLines, blankForm, readFile, readTable, readTarget}
 use Rattle.reader.specs.Table.Outcome.{table, refused}

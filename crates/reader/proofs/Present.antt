@@ -12,7 +12,7 @@ use lib.ListN.{length, length-map}
 use Rattle.graphs.specs.Lists.{upFrom, select, allOf}
 use Rattle.graphs.proofs.Lists.{upFrom-length}
 use Rattle.classes.specs.Renaming.{rising}
-use Rattle.reader.specs.Form.{cell, present, conditionAt}
+use Rattle.forms.specs.TableForm.{cell, present, conditionAt}
 use Rattle.reader.proofs.Shape.{Guarded}
 
 module _ (s : ℕ → Bool) where

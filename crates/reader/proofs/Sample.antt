@@ -6,7 +6,7 @@ use lib.ListN.{take}
 use Rattle.automata.specs.Examples.{Claim, Means, examples, sample, loose, delivered, deliveredByOne}
 use Rattle.automata.proofs.Examples.{examples-hold}
 use Rattle.fields.specs.Format.{glyphOf}
-use Rattle.reader.specs.Form.{automatonOf, targetOf}
+use Rattle.forms.specs.TableForm.{automatonOf, targetOf}
 use Rattle.reader.specs.Rules.{hasTerm, expected, crowded, inRange, inOrder, judgeValues, judgeLine, judge, home, put, advance, complete}
 use Rattle.reader.specs.Sample.{sampleBytes, looseBytes, deliveredBytes, deliveredByOneBytes, sampleForm, looseForm, deliveredForm, deliveredByOneForm, readExamples}
 use Rattle.reader.specs.Table.{readFile, readTable, readTarget}

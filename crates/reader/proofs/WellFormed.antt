@@ -15,7 +15,7 @@ use Rattle.graphs.proofs.Lists.{getD-map, upFrom-length, upFrom-getD}
 use Rattle.classes.specs.Renaming.{rising}
 use Rattle.automata.specs.Automaton.{Assignment, Transition, Automaton, arity}
 use Rattle.automata.specs.WellFormed.{inside, fitsTerm, fitsCondition, fitsAssignment, constantCount, fitsTransition, fitsConditions, wellFormed, limited, fitsTarget}
-use Rattle.reader.specs.Form.{cell, present, termOf, conditionAt, assignmentAt, transitionAt, automatonOf, targetOf}
+use Rattle.forms.specs.TableForm.{cell, present, termOf, conditionAt, assignmentAt, transitionAt, automatonOf, targetOf}
 use Rattle.reader.specs.Table.{readTable, readTarget}
 use Rattle.reader.specs.Table.Outcome.{table}
 use Rattle.reader.proofs.Accepted.{Inside, Named, aRegister, aParameter, aConstant}

@@ -1,5 +1,4 @@
 -- What the contracts of the reader cite. Form, Rules, Table and Reply are to be believed; Machine has the shape of the code and is not.
-pub mod Form
 pub mod Rules
 pub mod Table
 pub mod Reply

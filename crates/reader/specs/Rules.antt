@@ -9,7 +9,7 @@ use lib.ListN.{length, getD, set}
 use Rattle.automata.specs.WellFormed.{inside}
 use Rattle.fields.specs.Format.{padded}
 use Rattle.reader.specs.declared.Progress.{Progress}
-use Rattle.reader.specs.Form.{cell}
+use Rattle.forms.specs.TableForm.{cell}
 
 -- the table has the term of kind k and number n: 1 a register, 2 a parameter of the transition's action, 3 a constant
 unfoldable pub hasTerm : Progress → ℕ → ℕ → Bool

@@ -8,7 +8,7 @@ use Rattle.graphs.specs.Formulas.Formula.{atom, EG}
 use Rattle.automata.specs.Questions.Atom.{at, equal}
 use Rattle.automata.specs.Examples.{Claim, move}
 use Rattle.automata.specs.Examples.Claim.{shortest, never, holds, fails}
-use Rattle.reader.specs.Form.{automatonOf, targetOf}
+use Rattle.forms.specs.TableForm.{automatonOf, targetOf}
 use Rattle.fields.specs.Format.{padded}
 
 -- the fields of a line with numbers of one digit, in six columns each, and byte 10

@@ -8,7 +8,7 @@ use lib.Dec.{ltb, eqb}
 use lib.ListN.{length, replicate}
 use Rattle.fields.specs.Format.{fields, padded, pieces}
 use Rattle.reader.specs.declared.Progress.{Progress}
-use Rattle.reader.specs.Form.{cell}
+use Rattle.forms.specs.TableForm.{cell}
 use Rattle.reader.specs.Rules.{judge, accepted, placed, atStart, beforeTarget, complete}
 
 -- the form of a table that is read, or a refusal with its number and line

@@ -1,6 +1,5 @@
 -- What the contracts of the relation cite.
 pub mod Stored
-pub mod Labels
 pub mod Scan
 pub mod Marks
 pub mod Rows

@@ -15,8 +15,8 @@ use Rattle.graphs.proofs.Lists.{and-elim}
 use Rattle.automata.specs.Automaton.{Automaton, meets}
 use Rattle.automata.specs.Runs.{State, Move, transitionOf, isStep, after, permitted, initial, follows, isRun}
 use Rattle.automata.specs.WellFormed.{limited}
-use Rattle.arcs.specs.Slots.{padded}
-use Rattle.arcs.proofs.Forms.{Limits, limits}
+use Rattle.forms.specs.Slots.{padded}
+use Rattle.forms.proofs.Forms.{Limits, limits}
 use Rattle.replay.specs.declared.Step.{Step}
 use Rattle.replay.specs.declared.Verdict.the-variants.{Good}
 use Rattle.replay.specs.Judge.{restZero, takes, contentsOf, moveOf, tidy, Whole, stepFrom, stepsFrom, startIn, stepsIn, judge, judgeFlat, flatMove, flatRun, goodRun}

@@ -10,7 +10,7 @@ use lib.Dec.{eqb}
 use lib.ListN.{length, getD, take, drop, drop-of-length-le}
 use lib.Seq.{drop-cons, take-all}
 use Rattle.graphs.specs.Lists.{allOf, eqList}
-use Rattle.arcs.specs.Slots.{valuesFrom}
+use Rattle.forms.specs.Slots.{valuesFrom}
 use Rattle.replay.specs.Judge.{restZero}
 use Rattle.replay.specs.Progress.{assignedSlots}
 

@@ -7,9 +7,9 @@ use lib.Dec.{eqb}
 use Rattle.graphs.specs.Lists.{eqList}
 use Rattle.automata.specs.Automaton.{Automaton}
 use Rattle.automata.specs.Runs.{State, transitionOf}
-use Rattle.reader.specs.Form.{cell}
-use Rattle.arcs.specs.declared.Arc.{Arc}
-use Rattle.arcs.specs.Slots.{holdsAll, valuesFrom}
+use Rattle.forms.specs.TableForm.{cell}
+use Rattle.forms.specs.declared.Arc.{Arc}
+use Rattle.forms.specs.Slots.{holdsAll, valuesFrom}
 use Rattle.replay.specs.declared.Step.{Step}
 use Rattle.replay.specs.declared.Progress.{Progress}
 use Rattle.replay.specs.declared.Verdict.{Verdict}

@@ -5,12 +5,12 @@ ghost use mathlib.Core.Bool.{_&&_};
 ghost use Prim.Native.Nat.{ℕ, _≤_, _<_};
 ghost use lib.Dec.{eqb};
 ghost use lib.ListN.{length, getD, take};
-ghost use Rattle.reader.specs.Form.{automatonOf};
-ghost use Rattle.arcs.specs.Readable.{Readable};
-ghost use Rattle.arcs.specs.Slots.{Fits};
+ghost use Rattle.forms.specs.TableForm.{automatonOf};
+ghost use Rattle.forms.specs.Readable.{Readable};
+ghost use Rattle.forms.specs.Slots.{Fits};
 ghost use Rattle.replay.specs.Judge.{restZero, Whole, stepFrom, judge, judgeFlat};
 ghost use Rattle.replay.specs.Progress.{begun, stopped, advanced, judged, slotValues, assignedSlots, madeBy};
-use arcs::Arc;
+use forms::Arc;
 
 // A step of a run: a transition's number (document 01's arc), its parameters, the new contents; unused slots are 0.
 pub struct Step {
@@ -136,7 +136,7 @@ fn made(form: &[u32], x: Arc, place: u32, contents: [u32; 5], s: Step) -> bool
     let old = slot_values(form, contents, params);
     let new = slot_values(form, next, params);
     let leaves = place_of(x.from) == place;
-    let met = arcs::holds(guard, &old);
+    let met = forms::holds(guard, &old);
     let moved = assigned_slots(&old, &new, wide8(x.sets), source, target);
     leaves & met & moved & tidy(s, wide8(x.params), wide(form[1]))
 }
@@ -158,9 +158,9 @@ pub fn started(form: &[u32], start: [u32; 5]) -> Progress
     requires { ⌜ Readable (now form) ⌝ }
     ensures { λ r. ⌜ r ≡ begun (automatonOf (now (form .entry))) start ⌝ }
 {
-    let guard = arcs::guard_at(form, 20);
+    let guard = forms::guard_at(form, 20);
     let vals = slot_values(form, start, [0, 0, 0]);
-    let met = arcs::holds(guard, &vals);
+    let met = forms::holds(guard, &vals);
     let tidy = rest_zero(&start, wide(form[1]));
     Progress {
         place: form[115],
@@ -186,7 +186,7 @@ pub fn advance(form: &[u32], p: Progress, moment: usize, s: Step) -> Progress
     if wide(form[5]) < arc {
         return stop(p, moment);
     }
-    let x = arcs::arc_at(form, arc - 1);
+    let x = forms::arc_at(form, arc - 1);
     let contents = p.contents;
     if made(form, x, p.place, contents, s) {
         let next = s.next;

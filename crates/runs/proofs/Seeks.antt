@@ -12,8 +12,8 @@ use Rattle.graphs.specs.Lists.{upFrom, select, first, eqList}
 use Rattle.classes.specs.Classes.{noted, labels, notes, identifiers}
 use Rattle.classes.proofs.Legal.{labels-length}
 use Rattle.moves.specs.Moves.{pool}
-use Rattle.arcs.specs.declared.Arc.{Arc}
-use Rattle.arcs.specs.Slots.{padded, holdsAll, valuesFrom}
+use Rattle.forms.specs.declared.Arc.{Arc}
+use Rattle.forms.specs.Slots.{padded, holdsAll, valuesFrom}
 use Rattle.runs.specs.declared.Found.{Found}
 use Rattle.runs.specs.Seeking.{worth, tries, suits, foundOf, labelSlots, wantedOf, sought, newContents}
 use Rattle.runs.proofs.Padding.{padded-take}

@@ -13,7 +13,7 @@ use lib.Seq.{drop-cons, length-take-le, getD-take}
 use Rattle.classes.specs.Classes.{position, noted, notes, freshFrom, identifier, identifiers}
 use Rattle.classes.proofs.Labels.{position-cons-same, position-cons-other}
 use Rattle.graphs.specs.Lists.{eqList}
-use Rattle.arcs.specs.Slots.{valuesFrom}
+use Rattle.forms.specs.Slots.{valuesFrom}
 
 -- The search for x among the first n of a list: the place, counted from i, in what is left
 

@@ -10,13 +10,13 @@ ghost use Rattle.graphs.specs.Lists.{first, eqList, upFrom};
 ghost use Rattle.classes.specs.Classes.{position, noted, fresh, identifier, identifiers, notes};
 ghost use Rattle.moves.specs.Moves.{pool, joins, smallest};
 ghost use Rattle.automata.specs.Runs.{transitionOf};
-ghost use Rattle.reader.specs.Form.{automatonOf};
-ghost use Rattle.arcs.specs.Readable.{Readable};
-ghost use Rattle.arcs.specs.Slots.{Fits, padded};
+ghost use Rattle.forms.specs.TableForm.{automatonOf};
+ghost use Rattle.forms.specs.Readable.{Readable};
+ghost use Rattle.forms.specs.Slots.{Fits, padded};
 ghost use Rattle.runs.specs.Noting.{known, seenOf, Tidy, scanned};
 ghost use Rattle.runs.specs.Seeking.{worth, tries, suits, foundOf, slotsOf, labelSlots, wantedOf, sought, newContents};
 ghost use Rattle.runs.specs.Asking.{stateAt, classAt, Posed, moveBy, paddedMove};
-use arcs::Arc;
+use forms::Arc;
 
 // Identifiers in order: those that have a label, or those to choose from.
 pub struct Seen {
@@ -240,7 +240,7 @@ fn judge(arc: Arc, base: Seen, wanted: [u8; 5], vals: [u32; 10]) -> Found
         found: false,
         vals: [0, 0, 0, 0, 0, 0, 0, 0, 0, 0],
     };
-    if arcs::holds(guard, &vals) {
+    if forms::holds(guard, &vals) {
         let source = arc.source;
         let written = scan(base, vals, source, arc.sets as usize);
         let labels = written.labels;
@@ -421,7 +421,7 @@ pub fn move_by(
         next: [0, 0, 0, 0, 0],
     };
     if connects(form, i, from, to) {
-        let arc = arcs::arc_at(form, i);
+        let arc = forms::arc_at(form, i);
         let r = form[1] as usize;
         let c = form[2] as usize;
         let constants = [form[7], form[13]];

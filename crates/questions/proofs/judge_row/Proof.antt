@@ -2,7 +2,7 @@
 use borrow.Author.Needs.{needs}
 use borrow.Author.Tests.{eq-eqb, ne-eqb}
 use Rattle.questions.specs.Rules.{judgeRow}
-use Rattle.questions.proofs.KindTable.{judge-shape}
+use Rattle.questions.proofs.Judged.{judge-shape}
 use Rattle.questions.proofs.judge_row.Statement.{statement}
 use Rattle.questions.proofs.judge_row.Tie as tie
 

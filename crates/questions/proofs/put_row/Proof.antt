@@ -3,7 +3,7 @@ use Prim.Native.Nat.{ℕ, _+_, _*_}
 use lib.ListN.{set}
 use mathlib.Core.List.{List}
 use mathlib.Core.Path.{_∙_, ap}
-use Rattle.questions.specs.Form.{put}
+use Rattle.forms.specs.QuestionForm.{put}
 use borrow.Author.Needs.{needs}
 use Rattle.questions.proofs.put_row.Statement.{statement}
 use Rattle.questions.proofs.put_row.Tie as tie

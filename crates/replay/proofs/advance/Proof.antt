@@ -4,9 +4,9 @@ use Prim.Native.Nat.{_-_, _≤_, _<_, pred}
 use mathlib.Core.Path.{_≡_, sym, _∙_, subst}
 use native.Mathlib.Omega.{arith}
 use lib.ListN.{length, length-map}
-use Rattle.reader.specs.Form.{automatonOf}
-use Rattle.arcs.specs.Slots.{Fits}
-use Rattle.arcs.proofs.Forms.{transition-count, arc-fits}
+use Rattle.forms.specs.TableForm.{automatonOf}
+use Rattle.forms.specs.Slots.{Fits}
+use Rattle.forms.proofs.Forms.{transition-count, arc-fits}
 use Rattle.replay.proofs.Slots.{step-out, step-found}
 use Rattle.replay.proofs.Walk.{advanced-bad, advanced-stops, advanced-goes}
 use borrow.Author.Needs.{needs}

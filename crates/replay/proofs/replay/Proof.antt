@@ -5,7 +5,7 @@ use mathlib.Core.Path.{_≡_, refl, sym, ap, _∙_}
 use native.Mathlib.Omega.{arith}
 use lib.ListN.{length, take, drop, length-take, length-drop}
 use lib.Seq.{take-all}
-use Rattle.reader.specs.Form.{automatonOf}
+use Rattle.forms.specs.TableForm.{automatonOf}
 use Rattle.replay.specs.Judge.{stepFrom, stepsIn}
 use Rattle.replay.specs.Progress.{begun, advanced, through, judged}
 use Rattle.replay.proofs.Walk.{stepsAt, through-next, through-end, judged-through}

@@ -45,12 +45,12 @@ use denote.Triple.Entry.{Vals, onEntry}
 use denote.Triple.Spec.{Meets, tripleOf}
 use denote.Triple.Table.{entered, cited}
 use denote.Triple.Walked.{says, needs, Stays, walkOf, Walks, ends-at, walked, walk-meets}
-use Rattle.walking.specs.Lent.{array-in, array-out, later-ones, first-out, first-in}
-use Rattle.walking.specs.Walk.{drops, drops-go, answers}
+use Rattle.struct_slices.specs.Lent.{array-in, array-out, later-ones, first-out, first-in}
+use Rattle.struct_slices.specs.Walk.{drops, drops-go, answers}
 use Rattle.replay.specs.declared.Step.{Step}
 use Rattle.replay.specs.declared.Verdict.{Verdict}
-use Rattle.reader.specs.Form.{automatonOf}
-use Rattle.arcs.specs.Readable.{Readable}
+use Rattle.forms.specs.TableForm.{automatonOf}
+use Rattle.forms.specs.Readable.{Readable}
 use Rattle.replay.specs.Judge.{judge}
 use Rattle.replay.proofs.Step as S
 use Rattle.replay.proofs.Step.Laws as S′

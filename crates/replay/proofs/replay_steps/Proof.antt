@@ -53,12 +53,12 @@ use denote.Triple.Walked.{says, needs, Stays, walkOf, Walks, ends-at, walked, wa
 use Rattle.replay.specs.declared.Step.{Step}
 use Rattle.replay.specs.declared.Progress.{Progress}
 use Rattle.replay.specs.declared.Verdict.{Verdict}
-use Rattle.reader.specs.Form.{automatonOf}
-use Rattle.arcs.specs.Readable.{Readable}
+use Rattle.forms.specs.TableForm.{automatonOf}
+use Rattle.forms.specs.Readable.{Readable}
 use Rattle.replay.specs.Judge.{judge}
 use Rattle.replay.specs.Progress.{begun, advanced, through, judged}
 use Rattle.replay.proofs.Walk.{noStep, taken-next, taken-all, judged-through}
-use Rattle.walking.specs.Walk.{drops, drops-go, tests, asks, asks-lent, answers}
+use Rattle.struct_slices.specs.Walk.{drops, drops-go, tests, asks, asks-lent, answers}
 use Rattle.replay.proofs.Step as S
 use Rattle.replay.proofs.Step.Laws as S′
 use Rattle.replay.proofs.Progress as P

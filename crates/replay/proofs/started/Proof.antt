@@ -3,8 +3,8 @@
 use mathlib.Core.Path.{_≡_, sym, subst}
 use native.Mathlib.Omega.{arith}
 use lib.ListN.{length}
-use Rattle.arcs.specs.Slots.{FitsGuard}
-use Rattle.arcs.proofs.Forms.{starting-fits}
+use Rattle.forms.specs.Slots.{FitsGuard}
+use Rattle.forms.proofs.Forms.{starting-fits}
 use Rattle.replay.proofs.Slots.{start-fits, start-found}
 use borrow.Author.Needs.{needs}
 use Rattle.replay.proofs.started.Statement.{statement}

@@ -6,8 +6,8 @@ use mathlib.Core.Path.{sym, ap, _∙_}
 use lib.Dec.{eqb}
 use native.Mathlib.Omega.{arith}
 use borrow.Author.Tests.{eq-eqb, ne-eqb}
-use Rattle.reader.specs.Form.{cell}
-use Rattle.arcs.proofs.Forms.{located, transition-is}
+use Rattle.forms.specs.TableForm.{cell}
+use Rattle.forms.proofs.Forms.{located, transition-is}
 use Rattle.runs.proofs.connects.Statement.{statement}
 use Rattle.runs.proofs.connects.Tie as tie
 

@@ -2,8 +2,8 @@
 -- Assumes nothing.
 use mathlib.Core.Path.{sym, _∙_, subst⁻¹}
 use native.Mathlib.Omega.{arith}
-use Rattle.arcs.specs.Slots.{padded, Fits}
-use Rattle.arcs.proofs.Forms.{located, arc-fits}
+use Rattle.forms.specs.Slots.{padded, Fits}
+use Rattle.forms.proofs.Forms.{located, arc-fits}
 use Rattle.runs.specs.Asking.{paddedMove}
 use Rattle.runs.proofs.Laws.{few-constants, few-registers, moved, not-moved, not-joined}
 use Rattle.runs.proofs.move_by.Statement.{statement}

@@ -5,9 +5,9 @@ use mathlib.Core.Path.{_≡_, sym, ap, _∙_}
 use lib.ListN.{length, getD}
 use native.Mathlib.Omega.{arith}
 use Rattle.moves.specs.Moves.{smallestFrom, smallest}
-use Rattle.reader.specs.Form.{automatonOf}
-use Rattle.arcs.specs.Slots.{padded}
-use Rattle.arcs.proofs.Forms.{transition-count, form-limits}
+use Rattle.forms.specs.TableForm.{automatonOf}
+use Rattle.forms.specs.Slots.{padded}
+use Rattle.forms.proofs.Forms.{transition-count, form-limits}
 use Rattle.runs.specs.Asking.{stateAt, classAt, paddedMove}
 use Rattle.runs.proofs.Laws.{smallest-here, smallest-later, smallest-left, smallest-next, smallest-none}
 use Rattle.runs.proofs.smallest_move.Statement.{statement}

@@ -3,7 +3,7 @@
 use borrow.Author.Needs.{needs}
 use Rattle.catalogue.proofs.Buffers.{written-begins}
 use Rattle.catalogue.specs.Serving.{servingRows}
-use Rattle.tables.proofs.Labels.{classes-most}
+use Rattle.opening.proofs.Labels.{classes-most}
 use Rattle.checker.proofs.counts.class_list.Statement.{statement}
 use Rattle.checker.proofs.counts.class_list.Tie as tie
 

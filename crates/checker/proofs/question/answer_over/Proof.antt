@@ -1,8 +1,8 @@
 -- `checker::answer_over` meets its contract. Assumes nothing.
 use mathlib.Core.Path.{sym, _∙_}
 use Rattle.automata.specs.Questions.{question}
-use Rattle.reader.specs.Form.{automatonOf}
-use Rattle.questions.specs.Form.{rowsOf}
+use Rattle.forms.specs.TableForm.{automatonOf}
+use Rattle.forms.specs.QuestionForm.{rowsOf}
 use Rattle.runs.proofs.Laws.{registers-are}
 use native.Mathlib.Omega.{arith}
 use Rattle.checker.proofs.Asked.{ready, class-labels, lent-as, class-below, yes-reply, yes-contents, no-reply, no-contents}
@@ -11,9 +11,9 @@ use Rattle.checker.proofs.question.answer_over.Statement.{statement}
 use Rattle.checker.proofs.question.answer_over.Tie as tie
 use Rattle.checker.proofs.question.answer_over.Reads as reads
 use Rattle.checker.proofs.question.answer_over.Lts as lts
-use Rattle.checker.proofs.forms.class_contents.Reads as class-contents-reads
-use Rattle.checker.proofs.forms.classes_in.Reads as classes-in-reads
-use Rattle.checker.proofs.forms.wide.Reads as wide-reads
+use Rattle.checker.proofs.given.class_contents.Reads as class-contents-reads
+use Rattle.checker.proofs.given.classes_in.Reads as classes-in-reads
+use Rattle.checker.proofs.given.wide.Reads as wide-reads
 use Rattle.formulas.proofs.ask.Reads as ask-reads
 use Rattle.relation.proofs.fill.Reads as fill-reads
 

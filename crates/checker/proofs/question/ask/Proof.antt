@@ -15,7 +15,7 @@ use Rattle.checker.proofs.question.ask.Reads as reads
 use Rattle.checker.proofs.question.ask.Lts as lts
 use Rattle.checker.proofs.question.answer.Reads as answer-reads
 use Rattle.questions.proofs.read_question.Reads as read-question-reads
-use Rattle.tables.proofs.open_table.Reads as open-table-reads
+use Rattle.opening.proofs.open_table.Reads as open-table-reads
 
 returns : tie.Need-returns
 returns c =

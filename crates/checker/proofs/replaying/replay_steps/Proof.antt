@@ -44,13 +44,13 @@ use denote.Triple.Entry.{Vals, onEntry}
 use denote.Triple.Spec.{Meets, tripleOf}
 use denote.Triple.Table.{entered, cited}
 use denote.Triple.Walked.{says, Stays, walkOf, Walks, ends-at, walked, walk-meets}
-use Rattle.walking.specs.Lent.{array-in, array-out}
-use Rattle.walking.specs.Walk.{drops, drops-go, asks, answers}
-use Rattle.reader.specs.Form.{automatonOf}
+use Rattle.struct_slices.specs.Lent.{array-in, array-out}
+use Rattle.struct_slices.specs.Walk.{drops, drops-go, asks, answers}
+use Rattle.forms.specs.TableForm.{automatonOf}
 use Rattle.reader.specs.Table.Outcome.{table as accepted}
-use Rattle.arcs.specs.Readable.{Readable}
-use Rattle.tables.specs.Opening.{openTable}
-use Rattle.tables.proofs.Opened.{opened-readable}
+use Rattle.forms.specs.Readable.{Readable}
+use Rattle.opening.specs.Opening.{openTable}
+use Rattle.opening.proofs.Opened.{opened-readable}
 use Rattle.replay.specs.declared.Step.{Step}
 use Rattle.replay.specs.declared.Verdict.{Verdict}
 use Rattle.replay.specs.Judge.{judge}

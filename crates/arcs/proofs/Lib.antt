@@ -1,5 +1,0 @@
--- The lemmas of transitions over slots.
-pub mod Encoding
-pub mod Turns
-pub mod Forms
-pub mod Values

@@ -1,3 +1,0 @@
--- What the contracts of transitions over slots cite.
-pub mod Readable
-pub mod Slots

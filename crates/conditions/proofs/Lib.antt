@@ -1,0 +1,4 @@
+-- Lemmas and theorems about start conditions.
+pub mod Turns
+pub mod Exact
+pub mod Located

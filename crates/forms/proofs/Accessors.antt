@@ -1,0 +1,59 @@
+-- What the numbers of a readable form say of its automaton, with their limits.
+-- Assumes nothing.
+use Prim.Native.Nat.{ℕ, zero, suc, _+_, _*_, _≤_, _<_}
+use mathlib.Core.List.{List, [], _∷_, map}
+use mathlib.Core.Path.{_≡_, refl, sym, ap, _∙_}
+use native.Mathlib.Omega.{arith}
+use lib.Ieee.Fits.{and-l, and-r}
+use lib.ListN.{length, getD, take}
+use Rattle.graphs.specs.Lists.{upFrom}
+use Rattle.automata.specs.Automaton.{Automaton, Transition}
+use Rattle.automata.specs.Runs.{nowhere}
+use Rattle.automata.specs.WellFormed.{inside, constantCount, fitsConditions}
+use Rattle.automata.proofs.Equivariance.{inside→}
+use Rattle.automata.proofs.Bisimulation.{wf-start}
+use Rattle.forms.specs.TableForm.{cell, automatonOf}
+use Rattle.forms.specs.Readable.{Readable}
+use Rattle.forms.proofs.Forms.{form-limits, transition-count, constant-count, transition-is, located}
+
+module _ (t : List ℕ) (r : Readable t) where
+  pub registers-is : (getD t 1 0 ≡ automatonOf t .registers) × (getD t 1 0 ≤ 5)
+  unfolding automatonOf
+  registers-is = (refl, form-limits t r .registers)
+
+  pub constants-is : (getD t 2 0 ≡ constantCount (automatonOf t)) × (getD t 2 0 ≤ 2)
+  constants-is = (sym (constant-count t), omega (arith, constant-count t, form-limits t r .constants))
+
+  pub locations-is : (getD t 3 0 ≡ automatonOf t .locations) × (1 ≤ getD t 3 0) × (getD t 3 0 ≤ 16)
+  unfolding automatonOf
+  locations-is = (refl, form-limits t r .locations .0, form-limits t r .locations .1)
+
+  pub transitions-is : (getD t 5 0 ≡ length (automatonOf t .transitions)) × (getD t 5 0 ≤ 64)
+  transitions-is = (sym (transition-count t), omega (arith, transition-count t, form-limits t r .transitions))
+
+  pub values-are : take (constantCount (automatonOf t)) (getD t 7 0 ∷ getD t 13 0 ∷ []) ≡ automatonOf t .constants
+  unfolding automatonOf
+  values-are = by (cell t 0 2) (omega (arith, constants-is .1))
+    where
+      by : (n : ℕ) → n ≤ 2 → take (length (map (λ i. cell t i 1) (upFrom 1 n))) (getD t 7 0 ∷ getD t 13 0 ∷ []) ≡ map (λ i. cell t i 1) (upFrom 1 n)
+      by zero h = refl
+      by (suc zero) h = refl
+      by (suc (suc zero)) h = refl
+      by (suc (suc (suc n))) h = absurd (omega arith)
+
+  pub start-is : (getD t 115 0 ≡ automatonOf t .start) × (1 ≤ getD t 115 0) × (getD t 115 0 ≤ 16)
+  unfolding automatonOf
+  start-is =
+      let (low, high) = inside→ (automatonOf t .locations) (automatonOf t .start) (search (and-l, and-r, r .fits) depth 9) in
+      (refl, low, omega (arith, form-limits t r .locations .1))
+
+  module _ (i : ℕ) (h : i < length (automatonOf t .transitions)) where
+    pub from-is : (getD t (6 * (28 + 14 * i) + 1) 0 ≡ getD (automatonOf t .transitions) i nowhere .from) × (1 ≤ getD t (6 * (28 + 14 * i) + 1) 0) × (getD t (6 * (28 + 14 * i) + 1) 0 ≤ 16)
+    from-is = (ap (λ (s : Transition). s .from) (sym (transition-is t r i h)), located t r i h .from .0, located t r i h .from .1)
+
+    pub to-is : (getD t (6 * (28 + 14 * i) + 3) 0 ≡ getD (automatonOf t .transitions) i nowhere .to) × (1 ≤ getD t (6 * (28 + 14 * i) + 3) 0) × (getD t (6 * (28 + 14 * i) + 3) 0 ≤ 16)
+    to-is = (ap (λ (s : Transition). s .to) (sym (transition-is t r i h)), located t r i h .to .0, located t r i h .to .1)
+
+    -- the row of the transition is in the form
+    pub row-low : 6 * (28 + 14 * i) + 5 < length t
+    row-low = omega (arith, r .long, located t r i h .low)

@@ -1,0 +1,154 @@
+-- The structs grow row by row: one line more is one condition or one assignment more.
+-- Assumes nothing.
+use Prim.Native.Nat.{ℕ, zero, suc, _+_, _≤_, _<_}
+use mathlib.Core.Bool.{Bool, true, false, not, cond}
+use mathlib.Core.List.{List, [], _∷_, _++_, map, List·Memᴰ, List·Memᴰ·head, List·Memᴰ·tail, Memᴰ·map, append-nil}
+use mathlib.Core.Path.{_≡_, refl, sym, ap, _∙_}
+use native.Mathlib.Omega.{arith}
+use lib.Dec.{T, eqb}
+use lib.ListN.{length, getD, set, length-map}
+use Rattle.graphs.specs.Lists.{upFrom, allOf, select}
+use Rattle.graphs.proofs.Lists.{allOf-mem, mem-select, mem-upFrom, upFrom-length}
+use Rattle.automata.specs.Automaton.{Condition, Assignment}
+use Rattle.automata.specs.Automaton.Term.{register}
+use Rattle.forms.specs.TableForm.{cell, present, conditionAt, assignmentAt}
+use Rattle.forms.specs.declared.Guard.{Guard}
+use Rattle.forms.specs.declared.Sets.{Sets}
+use Rattle.forms.specs.Slots.{slotOf, flag, padded, guardOf, guardWith, setsOf, setsWith}
+
+-- Padded lists
+
+pub padded-at : (n : ℕ) (xs : List ℕ) (i : ℕ) → i < n → getD (padded n xs) i 0 ≡ getD xs i 0
+unfolding padded
+padded-at zero xs i h = absurd (omega arith)
+padded-at (suc n) [] zero h = refl
+padded-at (suc n) [] (suc i) h = padded-at n [] i (omega arith)
+padded-at (suc n) (x ∷ xs) zero h = refl
+padded-at (suc n) (x ∷ xs) (suc i) h = padded-at n xs i (omega arith)
+
+-- what holds of 0 and of all entries
+pub padded-below : {A : Type 0} (f : A → ℕ) (n b : ℕ) (xs : List A) → 0 < b → ((x : A) → List·Memᴰ x xs → f x < b) → (i : ℕ) → getD (padded n (map f xs)) i 0 < b
+unfolding padded
+padded-below f zero b xs z h i = z
+padded-below f (suc n) b [] z h zero = z
+padded-below f (suc n) b [] z h (suc i) = padded-below f n b [] z h i
+padded-below f (suc n) b (x ∷ xs) z h zero = h x (List·Memᴰ·head refl)
+padded-below f (suc n) b (x ∷ xs) z h (suc i) = padded-below f n b xs z (λ y m. h y (List·Memᴰ·tail m)) i
+
+padded-more : {A : Type 0} (f : A → ℕ) (n : ℕ) (xs : List A) (x : A) → length xs < n → set (padded n (map f xs)) (length xs) (f x) ≡ padded n (map f (xs ++ (x ∷ [])))
+unfolding padded
+padded-more f zero xs x h = absurd (omega arith)
+padded-more f (suc n) [] x h = refl
+padded-more f (suc n) (y ∷ xs) x h = ap (λ l. f y ∷ l) (padded-more f n xs x (omega arith))
+
+length-more : {A : Type 0} (xs : List A) (x : A) → length xs + 1 ≡ length (xs ++ (x ∷ []))
+length-more [] x = refl
+length-more (y ∷ xs) x = let e : suc (length xs) + 1 ≡ suc (length xs + 1) = omega arith in e ∙ ap suc (length-more xs x)
+
+-- The rows that hold a line
+
+select-more : (p : ℕ → Bool) (i n : ℕ) → select p (upFrom i (suc n)) ≡ select p (upFrom i n) ++ cond (p (i + n)) ((i + n) ∷ []) []
+select-more p i zero = let e : i ≡ i + 0 = omega arith in ap (λ j. cond (p j) (j ∷ []) []) e
+select-more p i (suc n) = go (p i) (let e : suc i + n ≡ i + suc n = omega arith in select-more p (suc i) n ∙ ap (λ j. select p (upFrom (suc i) n) ++ cond (p j) (j ∷ []) []) e)
+  where
+    go : (b : Bool) → select p (upFrom (suc i) (suc n)) ≡ select p (upFrom (suc i) n) ++ cond (p (i + suc n)) ((i + suc n) ∷ []) []
+        → cond b (i ∷ select p (upFrom (suc i) (suc n))) (select p (upFrom (suc i) (suc n)))
+        ≡ cond b (i ∷ select p (upFrom (suc i) n)) (select p (upFrom (suc i) n)) ++ cond (p (i + suc n)) ((i + suc n) ∷ []) []
+    go true e = ap (λ l. i ∷ l) e
+    go false e = e
+
+select-le : (p : ℕ → Bool) (xs : List ℕ) → length (select p xs) ≤ length xs
+select-le p [] = omega arith
+select-le p (x ∷ xs) = go (p x) (select-le p xs)
+  where
+    go : (b : Bool) → length (select p xs) ≤ length xs → length (cond b (x ∷ select p xs) (select p xs)) ≤ suc (length xs)
+    go true h = omega arith
+    go false h = omega arith
+
+map-more : {A B : Type 0} (f : A → B) (xs : List A) (x : A) → map f (xs ++ (x ∷ [])) ≡ map f xs ++ (f x ∷ [])
+map-more f [] x = refl
+map-more f (y ∷ xs) x = ap (λ l. f y ∷ l) (map-more f xs x)
+
+module _ {A : Type 0} (f : ℕ → A) (t : List ℕ) (row : ℕ) where
+  -- the rows before i, and row i where it holds a line
+  lines-more : (i : ℕ) (b : Bool) → eqb (cell t (row + i) 0) 0 ≡ b → map f (present t row (i + 1)) ≡ cond b (map f (present t row i)) (map f (present t row i) ++ (f (row + i) ∷ []))
+  lines-more i b h = let e : i + 1 ≡ suc i = omega arith in
+      ap (λ n. map f (present t row n)) e ∙ ap (map f) (select-more (λ r. not (eqb (cell t r 0) 0)) row i)
+      ∙ ap (λ d. map f (present t row i ++ cond (not d) ((row + i) ∷ []) [])) h ∙ go b
+    where
+      go : (d : Bool) → map f (present t row i ++ cond (not d) ((row + i) ∷ []) []) ≡ cond d (map f (present t row i)) (map f (present t row i) ++ (f (row + i) ∷ []))
+      go true = ap (map f) (append-nil (present t row i))
+      go false = map-more f (present t row i) (row + i)
+
+  pub lines-le : (n : ℕ) → length (map f (present t row n)) ≤ n
+  lines-le n = omega (arith, length-map (present t row n) f, select-le (λ r. not (eqb (cell t r 0) 0)) (upFrom row n), upFrom-length row n)
+
+  -- a test that every line passes
+  pub line-passes : (test : A → Bool) (n : ℕ) → T (allOf test (map f (present t row n))) → (i : ℕ) → i < n → T (not (eqb (cell t (row + i) 0) 0)) → T (test (f (row + i)))
+  line-passes test n h i l p =
+      allOf-mem test (map f (present t row n)) h (Memᴰ·map f (mem-select (λ r. not (eqb (cell t r 0) 0)) (upFrom row n) (mem-upFrom row n (row + i) (omega arith) (omega arith)) p))
+
+-- Conditions
+
+guard-path : (g h : Guard) → g .count ≡ h .count → g .left ≡ h .left → g .equal ≡ h .equal → g .right ≡ h .right → g ≡ h
+guard-path g h c l e r = λ i. record { count = c i; left = l i; equal = e i; right = r i }
+
+pub guard-more : (t : List ℕ) (row i : ℕ) → i < 8 → guardWith (guardOf (map (conditionAt t) (present t row i))) t (row + i) ≡ guardOf (map (conditionAt t) (present t row (i + 1)))
+unfolding guardWith
+guard-more t row i h = go (eqb (cell t (row + i) 0) 0) refl
+  where
+    gs : List Condition
+    gs = map (conditionAt t) (present t row i)
+
+    g : Condition
+    g = conditionAt t (row + i)
+
+    few : length gs < 8
+    few = omega (arith, lines-le (conditionAt t) t row i)
+
+    more : Guard
+    more = record {
+      count = length gs + 1;
+      left = set (guardOf gs .left) (length gs) (slotOf (g .left));
+      equal = set (guardOf gs .equal) (length gs) (flag (g .equal));
+      right = set (guardOf gs .right) (length gs) (slotOf (g .right));
+    }
+
+    go : (b : Bool) → eqb (cell t (row + i) 0) 0 ≡ b → cond b (guardOf gs) more ≡ guardOf (map (conditionAt t) (present t row (i + 1)))
+    go true e = ap guardOf (sym (lines-more (conditionAt t) t row i true e))
+    go false e =
+        guard-path more (guardOf (gs ++ (g ∷ []))) (length-more gs g) (padded-more (λ d. slotOf (d .left)) 8 gs g few)
+        (padded-more (λ d. flag (d .equal)) 8 gs g few) (padded-more (λ d. slotOf (d .right)) 8 gs g few)
+        ∙ ap guardOf (sym (lines-more (conditionAt t) t row i false e))
+
+-- Assignments
+
+sets-path : (r s : Sets) → r .count ≡ s .count → r .source ≡ s .source → r .target ≡ s .target → r ≡ s
+sets-path r s c f t = λ i. record { count = c i; source = f i; target = t i }
+
+pub sets-more : (t : List ℕ) (row i : ℕ) → i < 5 → setsWith (setsOf (map (assignmentAt t) (present t row i))) t (row + i) ≡ setsOf (map (assignmentAt t) (present t row (i + 1)))
+unfolding setsWith
+sets-more t row i h = go (eqb (cell t (row + i) 0) 0) refl
+  where
+    ss : List Assignment
+    ss = map (assignmentAt t) (present t row i)
+
+    s : Assignment
+    s = assignmentAt t (row + i)
+
+    few : length ss < 5
+    few = omega (arith, lines-le (assignmentAt t) t row i)
+
+    more : Sets
+    more = record {
+      count = length ss + 1;
+      source = set (setsOf ss .source) (length ss) (slotOf (s .source));
+      target = set (setsOf ss .target) (length ss) (slotOf (register (s .register)));
+    }
+
+    go : (b : Bool) → eqb (cell t (row + i) 0) 0 ≡ b → cond b (setsOf ss) more ≡ setsOf (map (assignmentAt t) (present t row (i + 1)))
+    go true e = ap setsOf (sym (lines-more (assignmentAt t) t row i true e))
+    go false e =
+        sets-path more (setsOf (ss ++ (s ∷ []))) (length-more ss s) (padded-more (λ d. slotOf (d .source)) 5 ss s few)
+        (padded-more (λ d. slotOf (register (d .register))) 5 ss s few)
+        ∙ ap setsOf (sym (lines-more (assignmentAt t) t row i false e))

@@ -1,0 +1,9 @@
+-- The lemmas of transitions over slots.
+pub mod Encoding
+pub mod Turns
+pub mod Forms
+pub mod Values
+pub mod KindTable
+pub mod Lent
+pub mod QuestionRows
+pub mod Accessors

@@ -1,0 +1,77 @@
+-- `forms::holds` meets its contract: the conditions from i on decide.
+-- Assumes nothing.
+use Prim.Native.Nat.{_≤_, _-_}
+use mathlib.Core.Path.{_≡_, sym, _∙_}
+use native.Mathlib.Omega.{arith}
+use Rattle.forms.specs.Slots.{holdsFrom}
+use Rattle.forms.proofs.Turns.{holds-start, holds-fails, holds-more, holds-done}
+use borrow.Author.Needs.{needs}
+use Rattle.forms.proofs.holds.Statement.{statement}
+use Rattle.forms.proofs.holds.Tie as tie
+use Rattle.forms.proofs.holds.Reads as reads
+use Rattle.forms.proofs.holds.Lts as lts
+use Rattle.forms.proofs.condition_holds.Reads as condition-holds-reads
+
+abbrev Inv-loop : tie.InvT-loop
+Inv-loop vals n left equal right i₀ i = (i ≤ n) × (holdsFrom left equal right vals i (n - i) ≡ holdsFrom left equal right vals 0 n)
+
+abbrev μ-loop : tie.MeasureT-loop
+μ-loop vals n left equal right i₀ i = n - i
+
+cast-n : tie.Need-cast-n Inv-loop μ-loop
+cast-n c = search needs
+
+loop-holds : tie.Need-loop-holds Inv-loop μ-loop
+loop-holds c = (omega arith, holds-start _ _ _ _ _ 0)
+
+array-read-condition-holds : tie.Need-array-read-condition-holds Inv-loop μ-loop
+array-read-condition-holds c = search needs
+
+array-read-condition-holds-2 : tie.Need-array-read-condition-holds-2 Inv-loop μ-loop
+array-read-condition-holds-2 c = search needs
+
+array-read-condition-holds-3 : tie.Need-array-read-condition-holds-3 Inv-loop μ-loop
+array-read-condition-holds-3 c = search needs
+
+condition-holds-requires : tie.Need-condition-holds-requires Inv-loop μ-loop
+condition-holds-requires c κs =
+    let e = c .before .before .before .before .before .before in
+    let i = c .before .loop .i in
+    (e .pre .left-fits i, e .pre .right-fits i)
+
+add-i : tie.Need-add-i Inv-loop μ-loop
+add-i c = search needs
+
+loop-less : tie.Need-loop-less Inv-loop μ-loop
+loop-less c = search needs
+
+loop-again : tie.Need-loop-again Inv-loop μ-loop
+loop-again c =
+    let l = c .before .before .before .loop in
+    (omega arith, sym (holds-more _ _ _ _ _ (l .i) (omega arith) (sym (c .before .condition-holds .ensures) ∙ c .if1 .taken)) ∙ l .inv .1)
+
+returns : tie.Need-returns Inv-loop μ-loop
+returns c =
+    let l = c .before .before .before .loop in
+    sym (holds-fails _ _ _ _ _ (l .i) (omega arith) (sym (c .before .condition-holds .ensures) ∙ c .if1 .left)) ∙ l .inv .1
+
+returns-2 : tie.Need-returns-2 Inv-loop μ-loop
+returns-2 c = let l = c .before .loop in sym (holds-done _ _ _ _ _ (l .i) (omega arith)) ∙ l .inv .1
+
+pub holds-spec : {M : Type 1} → statement M
+holds-spec =
+    tie.close
+    (tie.spec
+    Inv-loop
+    μ-loop
+    cast-n
+    loop-holds
+    array-read-condition-holds
+    array-read-condition-holds-2
+    array-read-condition-holds-3
+    condition-holds-requires
+    add-i
+    loop-less
+    loop-again
+    returns
+    returns-2)

@@ -1,0 +1,7 @@
+-- What the contracts of forms cite.
+pub mod TableForm
+pub mod Readable
+pub mod ClassLabels
+pub mod Slots
+pub mod QuestionForm
+pub mod Shapes

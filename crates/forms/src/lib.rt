@@ -1,0 +1,358 @@
+// The form of a read table or question: what stands in it, by small functions that speak of its automaton; its transitions and conditions as small structs over
+// slots, and the test whether conditions hold.
+// Slots 0 and 1 are the constants, 2 to 6 the registers, 7 to 9 the parameters. The same code serves identifiers and class labels.
+
+ghost use mathlib.Core.Path.{_≡_};
+ghost use mathlib.Core.List.{map};
+ghost use Prim.Native.Nat.{ℕ, _+_, _*_, _<_, _≤_};
+ghost use lib.Dec.{T, eqb};
+ghost use lib.ListN.{length, getD, take};
+ghost use Rattle.graphs.specs.Lists.{allOf};
+ghost use Rattle.automata.specs.WellFormed.{constantCount, fitsCondition, fitsAssignment};
+ghost use Rattle.automata.specs.Runs.{nowhere};
+ghost use Rattle.forms.specs.TableForm.{formLength, termOf, automatonOf, targetOf};
+ghost use Rattle.forms.specs.Readable.{Readable};
+ghost use Rattle.forms.specs.Shapes.{shape, shapeOf};
+ghost use Rattle.forms.specs.Slots.{slotOf, flag, guardOf, conditionsFrom, ConditionFits, FitsGuard, guardWith, holdsAt, holdsAll, setsOf, assignmentsFrom, AssignmentFits, setsWith, arcOf};
+
+// A table's flat form.
+pub type Form = [u32; 5544];
+
+fn wide(n: u32) -> usize
+    ensures { λ r. ⌜ r ≡ n ⌝ }
+{
+    n as usize
+}
+
+// How many registers, constants, locations and transitions the table has.
+pub fn registers(form: &[u32]) -> usize
+    requires { ⌜ Readable (now form) ⌝ }
+    ensures { λ r. ⌜ (r ≡ automatonOf (now (form .entry)) .registers) × (r ≤ 5) ⌝ }
+{
+    wide(form[1])
+}
+
+pub fn constants(form: &[u32]) -> usize
+    requires { ⌜ Readable (now form) ⌝ }
+    ensures { λ r. ⌜ (r ≡ constantCount (automatonOf (now (form .entry)))) × (r ≤ 2) ⌝ }
+{
+    wide(form[2])
+}
+
+pub fn locations(form: &[u32]) -> usize
+    requires { ⌜ Readable (now form) ⌝ }
+    ensures { λ r. ⌜ (r ≡ automatonOf (now (form .entry)) .locations) × (1 ≤ r) × (r ≤ 16) ⌝ }
+{
+    wide(form[3])
+}
+
+pub fn transitions(form: &[u32]) -> usize
+    requires { ⌜ Readable (now form) ⌝ }
+    ensures { λ r. ⌜ (r ≡ length (automatonOf (now (form .entry)) .transitions)) × (r ≤ 64) ⌝ }
+{
+    wide(form[5])
+}
+
+// The constants, in an array of two.
+pub fn constant_values(form: &[u32]) -> [u32; 2]
+    requires { ⌜ Readable (now form) ⌝ }
+    ensures { λ r. ⌜ take (constantCount (automatonOf (now (form .entry)))) r ≡ automatonOf (now (form .entry)) .constants ⌝ }
+{
+    [form[7], form[13]]
+}
+
+// The location of a target, or of a table's start: a table's form is that of a target too.
+pub fn target_location(form: &[u32]) -> usize
+    requires { ⌜ length (now form) ≡ formLength ⌝ }
+    ensures { λ r. ⌜ r ≡ targetOf (now (form .entry)) .location ⌝ }
+{
+    wide(form[115])
+}
+
+pub fn start(form: &[u32]) -> usize
+    requires { ⌜ Readable (now form) ⌝ }
+    ensures { λ r. ⌜ (r ≡ automatonOf (now (form .entry)) .start) × (1 ≤ r) × (r ≤ 16) ⌝ }
+{
+    wide(form[115])
+}
+
+// The location that transition i, counted from 0, leaves, and the one that it enters.
+pub fn from(form: &[u32], i: usize) -> usize
+    requires { ⌜ Readable (now form) × (i < length (automatonOf (now form) .transitions)) ⌝ }
+    ensures { λ r. ⌜ (r ≡ getD (automatonOf (now (form .entry)) .transitions) i nowhere .from) × (1 ≤ r) × (r ≤ 16) ⌝ }
+{
+    wide(form[6 * (28 + 14 * i) + 1])
+}
+
+pub fn to(form: &[u32], i: usize) -> usize
+    requires { ⌜ Readable (now form) × (i < length (automatonOf (now form) .transitions)) ⌝ }
+    ensures { λ r. ⌜ (r ≡ getD (automatonOf (now (form .entry)) .transitions) i nowhere .to) × (1 ≤ r) × (r ≤ 16) ⌝ }
+{
+    wide(form[6 * (28 + 14 * i) + 3])
+}
+
+// Conditions: condition i says that the values in slots left[i] and right[i] are equal (equal[i] is 1) or different.
+pub struct Guard {
+    pub count: u8,
+    pub left: [u8; 8],
+    pub equal: [u8; 8],
+    pub right: [u8; 8],
+}
+
+// Assignments: assignment i writes the value in slot source[i] to the register of slot target[i].
+pub struct Sets {
+    pub count: u8,
+    pub source: [u8; 5],
+    pub target: [u8; 5],
+}
+
+// A transition, with its number of parameters.
+pub struct Arc {
+    pub from: u8,
+    pub action: u8,
+    pub to: u8,
+    pub params: u8,
+    pub guard: Guard,
+    pub sets: u8,
+    pub source: [u8; 5],
+    pub target: [u8; 5],
+}
+
+// The slot of a term.
+fn slot(kind: u32, number: u32) -> u8
+    requires { ⌜ (1 ≤ number) × (number ≤ 5) ⌝ }
+    ensures { λ r. ⌜ r ≡ slotOf (termOf kind number) ⌝ }
+{
+    let n = number as u8;
+    if kind == 1 {
+        return n + 1;
+    }
+    if kind == 2 {
+        return n + 6;
+    }
+    n - 1
+}
+
+// The number of the relation: 1 for equal, 0 for different.
+fn sign(relation: u32) -> u8
+    ensures { λ r. ⌜ r ≡ flag (eqb relation 1) ⌝ }
+{
+    if relation == 1 {
+        return 1;
+    }
+    0
+}
+
+// The guard with the condition of this row, if it holds one.
+fn with_condition(g: Guard, form: &[u32], row: usize) -> Guard
+    requires { ⌜ (row < 924) × (length (now form) ≡ 5544) × (g .count < 8) × ConditionFits (now form) row ⌝ }
+    ensures { λ r. ⌜ r ≡ guardWith g (now (form .entry)) row ⌝ }
+{
+    let at = 6 * row;
+    if form[at] == 0 {
+        return g;
+    }
+    let n = g.count as usize;
+    let l = slot(form[at + 1], form[at + 2]);
+    let e = sign(form[at + 3]);
+    let r = slot(form[at + 4], form[at + 5]);
+    let mut left = g.left;
+    let mut equal = g.equal;
+    let mut right = g.right;
+    left[n] = l;
+    equal[n] = e;
+    right[n] = r;
+    Guard {
+        count: g.count + 1,
+        left: left,
+        equal: equal,
+        right: right,
+    }
+}
+
+// The conditions in the eight rows from this one on.
+pub fn guard_at(form: &[u32], row: usize) -> Guard
+    requires { ⌜ (length (now form) ≡ 5544) × (row + 8 ≤ 924) × T (allOf (fitsCondition 2 5 3) (conditionsFrom (now form) row)) ⌝ }
+    ensures { λ r. ⌜ r ≡ guardOf (conditionsFrom (now (form .entry)) row) ⌝ }
+{
+    let mut g = Guard {
+        count: 0,
+        left: [0, 0, 0, 0, 0, 0, 0, 0],
+        equal: [0, 0, 0, 0, 0, 0, 0, 0],
+        right: [0, 0, 0, 0, 0, 0, 0, 0],
+    };
+    let mut i = 0;
+    while i < 8 {
+        g = with_condition(g, form, row + i);
+        i += 1;
+    }
+    g
+}
+
+// The assignments with that of this row, if it holds one.
+fn with_set(s: Sets, form: &[u32], row: usize) -> Sets
+    requires { ⌜ (row < 924) × (length (now form) ≡ 5544) × (s .count < 5) × AssignmentFits (now form) row ⌝ }
+    ensures { λ r. ⌜ r ≡ setsWith s (now (form .entry)) row ⌝ }
+{
+    let at = 6 * row;
+    if form[at] == 0 {
+        return s;
+    }
+    let n = s.count as usize;
+    let register = form[at + 1] as u8;
+    let from = slot(form[at + 2], form[at + 3]);
+    let mut source = s.source;
+    let mut target = s.target;
+    source[n] = from;
+    target[n] = register + 1;
+    Sets {
+        count: s.count + 1,
+        source: source,
+        target: target,
+    }
+}
+
+// The assignments in the five rows from this one on.
+pub fn sets_at(form: &[u32], row: usize) -> Sets
+    requires { ⌜ (length (now form) ≡ 5544) × (row + 5 ≤ 924) × T (allOf (fitsAssignment 2 5 3) (assignmentsFrom (now form) row)) ⌝ }
+    ensures { λ r. ⌜ r ≡ setsOf (assignmentsFrom (now (form .entry)) row) ⌝ }
+{
+    let mut s = Sets {
+        count: 0,
+        source: [0, 0, 0, 0, 0],
+        target: [0, 0, 0, 0, 0],
+    };
+    let mut i = 0;
+    while i < 5 {
+        s = with_set(s, form, row + i);
+        i += 1;
+    }
+    s
+}
+
+// Transition i, counted from 0.
+pub fn arc_at(form: &[u32], i: usize) -> Arc
+    requires { ⌜ Readable (now form) × (i < length (automatonOf (now form) .transitions)) ⌝ }
+    ensures { λ r. ⌜ r ≡ arcOf (automatonOf (now (form .entry))) (getD (automatonOf (now (form .entry)) .transitions) i nowhere) ⌝ }
+{
+    let row = 28 + 14 * i;
+    let at = 6 * row;
+    let from = form[at + 1] as u8;
+    let action = form[at + 2] as u8;
+    let to = form[at + 3] as u8;
+    let params = form[6 * (action as usize + 2) + 1] as u8;
+    let guard = guard_at(form, row + 1);
+    let s = sets_at(form, row + 9);
+    let source = s.source;
+    let target = s.target;
+    Arc {
+        from: from,
+        action: action,
+        to: to,
+        params: params,
+        guard: guard,
+        sets: s.count,
+        source: source,
+        target: target,
+    }
+}
+
+fn condition_holds(vals: &[u32; 10], l: u8, e: u8, r: u8) -> bool
+    requires { ⌜ (l < 10) × (r < 10) ⌝ }
+    ensures { λ b. ⌜ b ≡ holdsAt (now (vals .entry)) l e r ⌝ }
+{
+    let i = l as usize;
+    let j = r as usize;
+    if e == 1 {
+        return vals[i] == vals[j];
+    }
+    vals[i] != vals[j]
+}
+
+// Whether all conditions hold of the values.
+pub fn holds(g: Guard, vals: &[u32; 10]) -> bool
+    requires { ⌜ FitsGuard g ⌝ }
+    ensures { λ r. ⌜ r ≡ holdsAll g (now (vals .entry)) ⌝ }
+{
+    let n = g.count as usize;
+    let left = g.left;
+    let equal = g.equal;
+    let right = g.right;
+    let mut i = 0;
+    while i < n {
+        if condition_holds(vals, left[i], equal[i], right[i]) {
+            i += 1;
+        } else {
+            return false;
+        }
+    }
+    true
+}
+
+// What a field of a row names. A location is document 01's place.
+pub enum Use {
+    Location,
+    Register,
+    Constant,
+    Row,
+    Unused,
+}
+
+// The rule that gives the set of a row.
+pub enum Rule {
+    At,
+    Equal,
+    Is,
+    Not,
+    And,
+    Ex,
+    Until,
+    Globally,
+    Or,
+    Implies,
+    AllNext,
+    Finally,
+    AllGlobally,
+    AllFinally,
+    Truth,
+}
+
+// A kind of row: what its fields name, and its rule.
+pub struct Shape {
+    pub first: Use,
+    pub second: Use,
+    pub rule: Rule,
+}
+
+fn shaped(first: Use, second: Use, rule: Rule) -> Shape
+    ensures { λ r. ⌜ r ≡ shape first second rule ⌝ }
+{
+    Shape {
+        first: first,
+        second: second,
+        rule: rule,
+    }
+}
+
+// The shape of a kind; a number that is no kind names nothing and is true.
+pub fn shape_of(kind: u32) -> Shape
+    ensures { λ r. ⌜ r ≡ shapeOf kind ⌝ }
+{
+    match kind {
+        1 => shaped(Use::Location, Use::Unused, Rule::At),
+        2 => shaped(Use::Register, Use::Register, Rule::Equal),
+        3 => shaped(Use::Register, Use::Constant, Rule::Is),
+        4 => shaped(Use::Row, Use::Unused, Rule::Not),
+        5 => shaped(Use::Row, Use::Row, Rule::And),
+        6 => shaped(Use::Row, Use::Unused, Rule::Ex),
+        7 => shaped(Use::Row, Use::Row, Rule::Until),
+        8 => shaped(Use::Row, Use::Unused, Rule::Globally),
+        9 => shaped(Use::Row, Use::Row, Rule::Or),
+        10 => shaped(Use::Row, Use::Row, Rule::Implies),
+        11 => shaped(Use::Row, Use::Unused, Rule::AllNext),
+        12 => shaped(Use::Row, Use::Unused, Rule::Finally),
+        13 => shaped(Use::Row, Use::Unused, Rule::AllGlobally),
+        14 => shaped(Use::Row, Use::Unused, Rule::AllFinally),
+        _ => shaped(Use::Unused, Use::Unused, Rule::Truth),
+    }
+}

@@ -1,2 +1,0 @@
--- The lemmas of the packed sets of configurations.
-pub mod Located

@@ -1,0 +1,64 @@
+// Opening a table: it is read, the labels of its classes are written out once, and a table without a start is refused.
+
+ghost use mathlib.Core.Path.{_≡_};
+ghost use Prim.Native.Nat.{_≤_};
+ghost use lib.ListN.{length};
+ghost use Rattle.forms.specs.TableForm.{cell, automatonOf};
+ghost use Rattle.reader.specs.Reply.{replyOf, formOf};
+ghost use Rattle.forms.specs.Readable.{Readable};
+ghost use Rattle.catalogue.specs.Arrays.{written};
+ghost use Rattle.catalogue.specs.Serving.{labelRows};
+ghost use Rattle.conditions.specs.Startable.{startable};
+ghost use Rattle.opening.specs.Opening.{openTable, labelsOf};
+use reader::Reply;
+
+// Writes the labels of all classes of these counts.
+pub fn fill_classes(registers: usize, constants: usize, flat: &mut [u8])
+    requires { ⌜ (registers ≤ 5) × (constants ≤ 2) × (length (now flat) ≡ 3370) ⌝ }
+    ensures { λ r. ⌜ now (flat .exit) ≡ written (labelRows registers constants) (now (flat .entry)) ⌝ }
+{
+    let table = catalogue::table();
+    let mut rows = [0u16; 674];
+    catalogue::fill_rows(&table, registers, constants, &mut rows);
+    catalogue::fill_labels(&table, &rows, registers, constants, flat);
+}
+
+fn wide(n: u32) -> usize
+    ensures { λ r. ⌜ r ≡ n ⌝ }
+{
+    n as usize
+}
+
+// Writes the labels of a table's classes, and says whether one of them is a start.
+pub fn classes_start(form: &[u32], flat: &mut [u8]) -> bool
+    requires { ⌜ Readable (now form) × (length (now flat) ≡ 3370) ⌝ }
+    ensures { λ r. ⌜ (r ≡ startable (automatonOf (now (form .entry)))) × (now (flat .exit) ≡ written (labelRows (cell (now (form .entry)) 0 1) (cell (now (form .entry)) 0 2)) (now (flat .entry))) ⌝ }
+{
+    let registers = wide(form[1]);
+    let constants = wide(form[2]);
+    fill_classes(registers, constants, flat);
+    let n = catalogue::class_count(registers, constants);
+    conditions::has_start(form, flat, n)
+}
+
+// Reads a table to the form and the labels of its classes; a refusal leaves both as they are.
+pub fn open_table(s: &[u8], form: &mut [u32; 5544], labels: &mut [u8; 3370]) -> Reply
+    ensures { λ r. ⌜ (r ≡ replyOf 1 (openTable (now (s .entry)))) × (now (form .exit) ≡ formOf (openTable (now (s .entry))) (now (form .entry))) × (now (labels .exit) ≡ labelsOf (openTable (now (s .entry))) (now (labels .entry))) ⌝ }
+{
+    let mut read = [0u32; 5544];
+    let reply = reader::read_table(s, &mut read);
+    if let Reply::Accepted = reply {
+        let mut flat = [0u8; 3370];
+        if classes_start(&read, &mut flat) {
+            *form = read;
+            *labels = flat;
+            return Reply::Accepted;
+        }
+        return Reply::Refused {
+            number: 7,
+            file: 1,
+            line: 0,
+        };
+    }
+    reply
+}

@@ -1,0 +1,2 @@
+-- What the contracts that name a refusal cite.
+pub mod Judged

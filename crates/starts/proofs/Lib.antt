@@ -1,3 +1,0 @@
--- Lemmas and theorems about start conditions.
-pub mod Turns
-pub mod Exact

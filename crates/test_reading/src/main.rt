@@ -1,0 +1,128 @@
+// Tries the boundary cases of reading: for each case of the data folder prints the case, and the refusal's number, file and line, or zeros.
+use libc::STDOUT_FILENO;
+
+// The files 001.table, 001.target, 001.question, .. of the data folder: a case has a table, and perhaps one of the others.
+const CASES: u32 = 127;
+
+// What a file is refused for; zeros where it is read.
+struct Refusal {
+    number: u32,
+    file: u32,
+    line: u32,
+}
+
+fn nothing() -> Refusal {
+    Refusal {
+        number: 0,
+        file: 0,
+        line: 0,
+    }
+}
+
+fn of_reply(reply: reader::Reply) -> Refusal {
+    match reply {
+        reader::Reply::Accepted => nothing(),
+        reader::Reply::Refused { number, file, line } => Refusal {
+            number: number,
+            file: file,
+            line: line,
+        },
+    }
+}
+
+fn of_question(reply: questions::Reply) -> Refusal {
+    match reply {
+        questions::Reply::Accepted(_) => nothing(),
+        questions::Reply::Refused { number, line } => Refusal {
+            number: number,
+            file: 2,
+            line: line,
+        },
+    }
+}
+
+// The target of a case, if it has one.
+fn try_target(form: &[u32], a: u8, b: u8, c: u8) -> Refusal {
+    let file = os::open_read(&[a, b, c, b'.', b't', b'a', b'r', b'g', b'e', b't']);
+    if file < 0 {
+        return nothing();
+    }
+    let mut bytes = io::buffer();
+    let n = io::read_full(file, &mut bytes);
+    libc::close(file);
+    let mut target = [0u32; 5544];
+    of_reply(reader::read_target(form, &bytes[..n], &mut target))
+}
+
+// The question of a case, if it has one.
+fn try_question(registers: u32, constants: u32, places: u32, a: u8, b: u8, c: u8) -> Refusal {
+    let file = os::open_read(
+        &[
+            a,
+            b,
+            c,
+            b'.',
+            b'q',
+            b'u',
+            b'e',
+            b's',
+            b't',
+            b'i',
+            b'o',
+            b'n',
+        ],
+    );
+    if file < 0 {
+        return nothing();
+    }
+    let mut bytes = io::buffer();
+    let n = io::read_full(file, &mut bytes);
+    libc::close(file);
+    let mut rows = [0u32; 96];
+    of_question(questions::read_question(registers, constants, places, &bytes[..n], &mut rows))
+}
+
+// The table of a case, and then its target or question.
+fn try_case(a: u8, b: u8, c: u8) -> Refusal {
+    let file = os::open_read(&[a, b, c, b'.', b't', b'a', b'b', b'l', b'e']);
+    if file < 0 {
+        return nothing();
+    }
+    let mut bytes = io::large_buffer();
+    let n = io::read_full(file, &mut bytes);
+    libc::close(file);
+    let mut form = [0u32; 5544];
+    let mut labels = [0u8; 3370];
+    let reply = opening::open_table(&bytes[..n], &mut form, &mut labels);
+    if let reader::Reply::Accepted = reply {
+        let target = try_target(&form, a, b, c);
+        if 0 < target.number {
+            return target;
+        }
+        return try_question(form[1], form[2], form[3], a, b, c);
+    }
+    of_reply(reply)
+}
+
+fn digit(n: u32) -> u8 {
+    48 + (n % 10) as u8
+}
+
+// Prints one case in columns.
+fn show(i: u32, r: Refusal) {
+    let mut line = [b' '; 25];
+    columns::put(&mut line, 0, i);
+    columns::put(&mut line, 6, r.number);
+    columns::put(&mut line, 12, r.file);
+    columns::put(&mut line, 18, r.line);
+    line[24] = 10;
+    io::write_all(STDOUT_FILENO, &line);
+}
+
+fn main() {
+    let mut i = 1;
+    while i <= CASES {
+        show(i, try_case(digit(i / 100), digit(i / 10), digit(i)));
+        i += 1;
+    }
+}
