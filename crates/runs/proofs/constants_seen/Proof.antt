@@ -5,7 +5,7 @@ use mathlib.Core.List.{[], _∷_, _++_}
 use lib.ListN.{take, getD}
 use native.Mathlib.Omega.{arith}
 use borrow.Author.Needs.{needs}
-use Rattle.forms.specs.Slots.{padded}
+use Rattle.lists.specs.Arrays.{padded}
 use Rattle.runs.specs.Noting.{seenOf, known, Tidy}
 use Rattle.runs.proofs.Padding.{take-one, take-two, tidy-seenOf, known-seenOf}
 use Rattle.runs.proofs.constants_seen.Statement.{statement}

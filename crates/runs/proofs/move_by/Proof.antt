@@ -2,7 +2,8 @@
 -- Assumes nothing.
 use mathlib.Core.Path.{sym, _∙_, subst⁻¹}
 use native.Mathlib.Omega.{arith}
-use Rattle.forms.specs.Slots.{padded, Fits}
+use Rattle.lists.specs.Arrays.{padded}
+use Rattle.forms.specs.Slots.{Fits}
 use Rattle.forms.proofs.Forms.{located, arc-fits}
 use Rattle.runs.specs.Asking.{paddedMove}
 use Rattle.runs.proofs.Laws.{few-constants, few-registers, moved, not-moved, not-joined}

@@ -7,7 +7,8 @@ use native.Mathlib.Omega.{arith}
 use Rattle.graphs.specs.Lists.{upFrom}
 use Rattle.classes.specs.Classes.{labels, notes}
 use Rattle.moves.specs.Moves.{pool}
-use Rattle.forms.specs.Slots.{padded, valuesFrom}
+use Rattle.lists.specs.Arrays.{padded}
+use Rattle.forms.specs.Slots.{valuesFrom}
 use Rattle.runs.specs.Noting.{known, seenOf}
 use Rattle.runs.specs.Seeking.{slotsOf, labelSlots}
 use Rattle.runs.proofs.Padding.{padded-length, pool-length, known-seenOf, entries-below}

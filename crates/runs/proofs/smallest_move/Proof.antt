@@ -6,7 +6,7 @@ use lib.ListN.{length, getD}
 use native.Mathlib.Omega.{arith}
 use Rattle.moves.specs.Moves.{smallestFrom, smallest}
 use Rattle.forms.specs.TableForm.{automatonOf}
-use Rattle.forms.specs.Slots.{padded}
+use Rattle.lists.specs.Arrays.{padded}
 use Rattle.forms.proofs.Forms.{transition-count, form-limits}
 use Rattle.runs.specs.Asking.{stateAt, classAt, paddedMove}
 use Rattle.runs.proofs.Laws.{smallest-here, smallest-later, smallest-left, smallest-next, smallest-none}
