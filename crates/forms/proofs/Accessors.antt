@@ -1,18 +1,17 @@
 -- What the numbers of a readable form say of its automaton, with their limits.
 -- Assumes nothing.
-use Prim.Native.Nat.{ℕ, zero, suc, _+_, _*_, _≤_, _<_}
+use Prim.Native.Nat.{ℕ, zero, suc, _+_, _≤_, _<_}
 use mathlib.Core.List.{List, [], _∷_, map}
 use mathlib.Core.Path.{_≡_, refl, sym, ap, _∙_}
 use native.Mathlib.Omega.{arith}
 use lib.Ieee.Fits.{and-l, and-r}
 use lib.ListN.{length, getD, take}
 use Rattle.graphs.specs.Lists.{upFrom}
-use Rattle.automata.specs.Automaton.{Automaton, Transition}
+use Rattle.automata.specs.Automaton.{Transition, arity}
 use Rattle.automata.specs.Runs.{nowhere}
-use Rattle.automata.specs.WellFormed.{inside, constantCount, fitsConditions}
+use Rattle.automata.specs.WellFormed.{constantCount}
 use Rattle.automata.proofs.Equivariance.{inside→}
-use Rattle.automata.proofs.Bisimulation.{wf-start}
-use Rattle.forms.specs.TableForm.{cell, automatonOf}
+use Rattle.forms.specs.TableForm.{transitionRow, cell, automatonOf}
 use Rattle.forms.specs.Readable.{Readable}
 use Rattle.forms.proofs.Forms.{form-limits, transition-count, constant-count, transition-is, located}
 
@@ -48,12 +47,15 @@ module _ (t : List ℕ) (r : Readable t) where
       (refl, low, omega (arith, form-limits t r .locations .1))
 
   module _ (i : ℕ) (h : i < length (automatonOf t .transitions)) where
-    pub from-is : (getD t (6 * (28 + 14 * i) + 1) 0 ≡ getD (automatonOf t .transitions) i nowhere .from) × (1 ≤ getD t (6 * (28 + 14 * i) + 1) 0) × (getD t (6 * (28 + 14 * i) + 1) 0 ≤ 16)
+    pub from-is : (cell t (transitionRow i) 1 ≡ getD (automatonOf t .transitions) i nowhere .from) × (1 ≤ cell t (transitionRow i) 1) × (cell t (transitionRow i) 1 ≤ 16)
     from-is = (ap (λ (s : Transition). s .from) (sym (transition-is t r i h)), located t r i h .from .0, located t r i h .from .1)
 
-    pub to-is : (getD t (6 * (28 + 14 * i) + 3) 0 ≡ getD (automatonOf t .transitions) i nowhere .to) × (1 ≤ getD t (6 * (28 + 14 * i) + 3) 0) × (getD t (6 * (28 + 14 * i) + 3) 0 ≤ 16)
+    pub to-is : (cell t (transitionRow i) 3 ≡ getD (automatonOf t .transitions) i nowhere .to) × (1 ≤ cell t (transitionRow i) 3) × (cell t (transitionRow i) 3 ≤ 16)
     to-is = (ap (λ (s : Transition). s .to) (sym (transition-is t r i h)), located t r i h .to .0, located t r i h .to .1)
 
-    -- the row of the transition is in the form
-    pub row-low : 6 * (28 + 14 * i) + 5 < length t
-    row-low = omega (arith, r .long, located t r i h .low)
+    pub parameters-are : (n : ℕ) → n ≡ cell t (transitionRow i) 2
+        → (cell t (n + 2) 1 ≡ arity (automatonOf t) (getD (automatonOf t .transitions) i nowhere)) × (cell t (n + 2) 1 ≤ 3)
+    parameters-are n e =
+        let (few, same) = located t r i h .params in
+        let same-cell : cell t (n + 2) 1 ≡ cell t (cell t (transitionRow i) 2 + 2) 1 = ap (λ k. cell t (k + 2) 1) e in
+        (same-cell ∙ sym same ∙ ap (arity (automatonOf t)) (sym (transition-is t r i h)), omega arith)

@@ -17,7 +17,7 @@ use Rattle.automata.specs.Runs.{nowhere}
 use Rattle.automata.specs.WellFormed.{inside, fitsTerm, fitsCondition, fitsAssignment, fitsTransition, constantCount, wellFormed, limited}
 use Rattle.automata.proofs.Equivariance.{inside→}
 use Rattle.automata.proofs.Bisimulation.{wf-transition}
-use Rattle.forms.specs.TableForm.{cell, conditionAt, assignmentAt, transitionAt, automatonOf, termOf, termAt}
+use Rattle.forms.specs.TableForm.{countsRow, constantRows, actionRows, startingRows, transitionRow, guardRows, assignmentRows, cell, conditionAt, assignmentAt, transitionAt, automatonOf, targetOf, termOf, termAt}
 use Rattle.forms.specs.declared.Guard.{Guard}
 use Rattle.forms.specs.declared.Sets.{Sets}
 use Rattle.forms.specs.declared.Arc.{Arc}
@@ -167,31 +167,31 @@ arc-path x y f a t p g n s d = λ i. record { from = f i; action = a i; to = t i
 -- what the code needs of transition i and its lines
 pub record Located (t : List ℕ) (i : ℕ) : Type 0 where
   pub low : i < 64
-  pub from : (1 ≤ cell t (28 + 14 * i) 1) × (cell t (28 + 14 * i) 1 ≤ 16)
-  pub action : (1 ≤ cell t (28 + 14 * i) 2) × (cell t (28 + 14 * i) 2 ≤ 16)
-  pub to : (1 ≤ cell t (28 + 14 * i) 3) × (cell t (28 + 14 * i) 3 ≤ 16)
-  pub params : (cell t (cell t (28 + 14 * i) 2 + 2) 1 ≤ 3) × (arity (automatonOf t) (transitionAt t i) ≡ cell t (cell t (28 + 14 * i) 2 + 2) 1)
-  pub guard : T (allOf (fitsCondition 2 5 3) (conditionsFrom t (28 + 14 * i + 1)))
-  pub assigns : T (allOf (fitsAssignment 2 5 3) (assignmentsFrom t (28 + 14 * i + 9)))
+  pub from : (1 ≤ cell t (transitionRow i) 1) × (cell t (transitionRow i) 1 ≤ 16)
+  pub action : (1 ≤ cell t (transitionRow i) 2) × (cell t (transitionRow i) 2 ≤ 16)
+  pub to : (1 ≤ cell t (transitionRow i) 3) × (cell t (transitionRow i) 3 ≤ 16)
+  pub params : (cell t (cell t (transitionRow i) 2 + 2) 1 ≤ 3) × (arity (automatonOf t) (transitionAt t i) ≡ cell t (cell t (transitionRow i) 2 + 2) 1)
+  pub guard : T (allOf (fitsCondition 2 5 3) (conditionsFrom t (guardRows i)))
+  pub assigns : T (allOf (fitsAssignment 2 5 3) (assignmentsFrom t (assignmentRows i)))
 
 module _ (t : List ℕ) where
-  pub transition-count : length (automatonOf t .transitions) ≡ cell t 0 5
+  pub transition-count : length (automatonOf t .transitions) ≡ cell t countsRow 5
   unfolding automatonOf
-  transition-count = length-map (upFrom 0 (cell t 0 5)) (transitionAt t) ∙ upFrom-length 0 (cell t 0 5)
+  transition-count = length-map (upFrom 0 (cell t countsRow 5)) (transitionAt t) ∙ upFrom-length 0 (cell t countsRow 5)
 
-  pub constant-count : constantCount (automatonOf t) ≡ cell t 0 2
+  pub constant-count : constantCount (automatonOf t) ≡ cell t countsRow 2
   unfolding automatonOf
-  constant-count = length-map (upFrom 1 (cell t 0 2)) (λ i. cell t i 1) ∙ upFrom-length 1 (cell t 0 2)
+  constant-count = length-map (upFrom constantRows (cell t countsRow 2)) (λ i. cell t i 1) ∙ upFrom-length constantRows (cell t countsRow 2)
 
-  arity-at : (i : ℕ) → T (inside (length (automatonOf t .arities)) (cell t (28 + 14 * i) 2)) → arity (automatonOf t) (transitionAt t i) ≡ cell t (cell t (28 + 14 * i) 2 + 2) 1
+  arity-at : (i : ℕ) → T (inside (length (automatonOf t .arities)) (cell t (transitionRow i) 2)) → arity (automatonOf t) (transitionAt t i) ≡ cell t (cell t (transitionRow i) 2 + 2) 1
   unfolding automatonOf
   arity-at i f =
-      let n : ℕ = cell t (28 + 14 * i) 2 in
-      let all : length (map (λ j. cell t j 1) (upFrom 3 (cell t 0 4))) ≡ cell t 0 4 = length-map (upFrom 3 (cell t 0 4)) (λ j. cell t j 1) ∙ upFrom-length 3 (cell t 0 4) in
-      let (low, high) = inside→ (length (map (λ j. cell t j 1) (upFrom 3 (cell t 0 4)))) n f in
+      let n : ℕ = cell t (transitionRow i) 2 in
+      let all : length (map (λ j. cell t j 1) (upFrom actionRows (cell t countsRow 4))) ≡ cell t countsRow 4 = length-map (upFrom actionRows (cell t countsRow 4)) (λ j. cell t j 1) ∙ upFrom-length actionRows (cell t countsRow 4) in
+      let (low, high) = inside→ (length (map (λ j. cell t j 1) (upFrom actionRows (cell t countsRow 4)))) n f in
       let e : 3 + pred n ≡ n + 2 = omega arith in
-      getD-map (λ j. cell t j 1) (upFrom 3 (cell t 0 4)) (pred n) 0 0 (omega (arith, upFrom-length 3 (cell t 0 4)))
-      ∙ ap (λ j. cell t j 1) (upFrom-getD 3 (cell t 0 4) (pred n) (omega arith) ∙ e)
+      getD-map (λ j. cell t j 1) (upFrom actionRows (cell t countsRow 4)) (pred n) 0 0 (omega (arith, upFrom-length actionRows (cell t countsRow 4)))
+      ∙ ap (λ j. cell t j 1) (upFrom-getD actionRows (cell t countsRow 4) (pred n) (omega arith) ∙ e)
 
   module _ (r : Readable t) where
     pub form-limits : Limits (automatonOf t)
@@ -201,9 +201,9 @@ module _ (t : List ℕ) where
       pub transition-is : getD (automatonOf t .transitions) i nowhere ≡ transitionAt t i
       unfolding automatonOf
       transition-is =
-          let l : i < cell t 0 5 = omega (arith, transition-count) in
-          getD-map (transitionAt t) (upFrom 0 (cell t 0 5)) i 0 nowhere (omega (arith, upFrom-length 0 (cell t 0 5)))
-          ∙ ap (transitionAt t) (upFrom-getD 0 (cell t 0 5) i l ∙ omega arith)
+          let l : i < cell t countsRow 5 = omega (arith, transition-count) in
+          getD-map (transitionAt t) (upFrom 0 (cell t countsRow 5)) i 0 nowhere (omega (arith, upFrom-length 0 (cell t countsRow 5)))
+          ∙ ap (transitionAt t) (upFrom-getD 0 (cell t countsRow 5) i l ∙ omega arith)
 
       pub transition-fits : T (fitsTransition (automatonOf t) (getD (automatonOf t .transitions) i nowhere))
       transition-fits = wf-transition (automatonOf t) (r .fits) (getD-mem (automatonOf t .transitions) i nowhere h)
@@ -217,8 +217,6 @@ module _ (t : List ℕ) where
           let act : T (inside (length (a .arities)) (s .action)) = search (and-l, and-r) in
           let g : T (allOf (fitsCondition (constantCount a) (a .registers) (arity a s)) (s .guard)) = search (and-l, and-r) in
           let ss : T (allOf (fitsAssignment (constantCount a) (a .registers) (arity a s)) (s .assigns)) = search (and-l, and-r) in
-          let g1 : 29 + 14 * i ≡ 28 + 14 * i + 1 = omega arith in
-          let s1 : 37 + 14 * i ≡ 28 + 14 * i + 9 = omega arith in
           let (fl, fh) = inside→ (a .locations) (s .from) (search (and-l, and-r)) in
           let (al, ah) = inside→ (length (a .arities)) (s .action) act in
           let (tl, th) = inside→ (a .locations) (s .to) (search (and-l, and-r)) in
@@ -229,27 +227,17 @@ module _ (t : List ℕ) where
             action = (al, omega (arith, m .actions .1));
             to = (tl, omega (arith, m .locations .1));
             params = (omega (arith, arity-at i act), arity-at i act);
-            guard = subst (λ n. T (allOf (fitsCondition 2 5 3) (conditionsFrom t n))) g1 (conditions-wider (constantCount a) (a .registers) (arity a s) (m .constants) (m .registers) few (s .guard) g);
-            assigns = subst (λ n. T (allOf (fitsAssignment 2 5 3) (assignmentsFrom t n))) s1 (assignments-wider (constantCount a) (a .registers) (arity a s) (m .constants) (m .registers) few (s .assigns) ss);
+            guard = conditions-wider (constantCount a) (a .registers) (arity a s) (m .constants) (m .registers) few (s .guard) g;
+            assigns = assignments-wider (constantCount a) (a .registers) (arity a s) (m .constants) (m .registers) few (s .assigns) ss;
           }
 
-      pub arc-made : {g : Guard} {s : Sets} → g ≡ guardOf (conditionsFrom t (28 + 14 * i + 1)) → s ≡ setsOf (assignmentsFrom t (28 + 14 * i + 9))
-          → record {
-            from = cell t (28 + 14 * i) 1;
-            action = cell t (28 + 14 * i) 2;
-            to = cell t (28 + 14 * i) 3;
-            params = cell t (cell t (28 + 14 * i) 2 + 2) 1;
-            guard = g;
-            sets = s .count;
-            source = s .source;
-            target = s .target;
-          } ≡ arcOf (automatonOf t) (getD (automatonOf t .transitions) i nowhere)
-      arc-made {g} {s} e f =
-          let g1 : 28 + 14 * i + 1 ≡ 29 + 14 * i = omega arith in
-          let s1 : 28 + 14 * i + 9 ≡ 37 + 14 * i = omega arith in
-          let e′ : g ≡ guardOf (conditionsFrom t (29 + 14 * i)) = e ∙ ap (λ n. guardOf (conditionsFrom t n)) g1 in
-          let f′ : s ≡ setsOf (assignmentsFrom t (37 + 14 * i)) = f ∙ ap (λ n. setsOf (assignmentsFrom t n)) s1 in
-          arc-path _ (arcOf (automatonOf t) (transitionAt t i)) refl refl refl (sym (located .params .1)) e′ (ap (λ u. u .count) f′) (ap (λ u. u .source) f′) (ap (λ u. u .target) f′)
+      pub arc-made : {g : Guard} {s : Sets} {f c d p : ℕ} → f ≡ cell t (transitionRow i) 1 → c ≡ cell t (transitionRow i) 2 → d ≡ cell t (transitionRow i) 3
+          → p ≡ arity (automatonOf t) (getD (automatonOf t .transitions) i nowhere) → g ≡ guardOf (conditionsFrom t (guardRows i)) → s ≡ setsOf (assignmentsFrom t (assignmentRows i))
+          → record { from = f; action = c; to = d; params = p; guard = g; sets = s .count; source = s .source; target = s .target }
+          ≡ arcOf (automatonOf t) (getD (automatonOf t .transitions) i nowhere)
+      arc-made ef ec ed ep eg es =
+          arc-path _ (arcOf (automatonOf t) (transitionAt t i)) ef ec ed (ep ∙ ap (arity (automatonOf t)) transition-is) eg
+          (ap (λ u. u .count) es) (ap (λ u. u .source) es) (ap (λ u. u .target) es)
           ∙ ap (arcOf (automatonOf t)) (sym transition-is)
 
       -- its struct is in range
@@ -262,8 +250,8 @@ module _ (t : List ℕ) where
           let f : T (fitsTransition a s) = transition-fits in
           let g : T (allOf (fitsCondition (constantCount a) (a .registers) (arity a s)) (s .guard)) = search (and-l, and-r) in
           let ss : T (allOf (fitsAssignment (constantCount a) (a .registers) (arity a s)) (s .assigns)) = search (and-l, and-r) in
-          let g8 : length (s .guard) ≤ 8 = subst⁻¹ (λ u. length (u .guard) ≤ 8) transition-is (lines-le (conditionAt t) t (29 + 14 * i) 8) in
-          let s5 : length (s .assigns) ≤ 5 = subst⁻¹ (λ u. length (u .assigns) ≤ 5) transition-is (lines-le (assignmentAt t) t (37 + 14 * i) 5) in
+          let g8 : length (s .guard) ≤ 8 = subst⁻¹ (λ u. length (u .guard) ≤ 8) transition-is (lines-le (conditionAt t) t (guardRows i) 8) in
+          let s5 : length (s .assigns) ≤ 5 = subst⁻¹ (λ u. length (u .assigns) ≤ 5) transition-is (lines-le (assignmentAt t) t (assignmentRows i) 5) in
           let wide : T (allOf (fitsAssignment 2 5 3) (s .assigns)) = assignments-wider (constantCount a) (a .registers) (arity a s) (m .constants) (m .registers) few (s .assigns) ss in
           record {
             few = few;
@@ -274,7 +262,7 @@ module _ (t : List ℕ) where
           }
 
     -- the start conditions have a struct too
-    pub starting-fits : T (allOf (fitsCondition 2 5 3) (conditionsFrom t 20))
+    pub starting-fits : T (allOf (fitsCondition 2 5 3) (conditionsFrom t startingRows))
     unfolding automatonOf
     starting-fits =
         let a : Automaton = automatonOf t in
@@ -282,6 +270,11 @@ module _ (t : List ℕ) where
         let m : Limits a = form-limits in
         conditions-wider (constantCount a) (a .registers) 0 (m .constants) (m .registers) (omega arith) (a .starting) (search (and-l, and-r))
 
-  pub starting-is : automatonOf t .starting ≡ conditionsFrom t 20
+  -- a table's form is that of a target too: its location and conditions are those of the start
+  pub start-target : targetOf t ≡ record { location = automatonOf t .start; conditions = automatonOf t .starting }
+  unfolding automatonOf targetOf
+  start-target = refl
+
+  pub starting-is : automatonOf t .starting ≡ conditionsFrom t startingRows
   unfolding automatonOf
   starting-is = refl

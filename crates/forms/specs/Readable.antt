@@ -6,10 +6,10 @@ use mathlib.Core.Path.{_≡_}
 use lib.Dec.{T}
 use lib.ListN.{length}
 use Rattle.automata.specs.WellFormed.{wellFormed, limited}
-use Rattle.forms.specs.TableForm.{automatonOf}
+use Rattle.forms.specs.TableForm.{formLength, automatonOf}
 
 -- a form whose automaton has all its numbers in range, within document 01's limits
 pub record Readable (t : List ℕ) : Type 0 where
-  pub long : length t ≡ 5544
+  pub long : length t ≡ formLength
   pub fits : T (wellFormed (automatonOf t))
   pub small : T (limited (automatonOf t))

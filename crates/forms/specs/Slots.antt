@@ -2,12 +2,13 @@
 -- Constants have the slots from 0, registers those from 2, parameters those from 7.
 -- Assumes nothing.
 use Prim.Native.Nat.{ℕ, zero, suc, _+_, _≤_, _<_, pred}
-use mathlib.Core.Bool.{Bool, true, _&&_, cond, not}
+use mathlib.Core.Bool.{Bool, cond, not}
 use mathlib.Core.List.{List, [], _∷_, map}
 use mathlib.Core.Path.{_≡_}
 use lib.Dec.{T, eqb}
 use lib.ListN.{length, getD, set}
 use Rattle.lists.specs.Arrays.{padded}
+use Rattle.lists.specs.Searches.{allFrom}
 use Rattle.graphs.specs.Lists.{item}
 use Rattle.automata.specs.Automaton.{Term, Condition, Assignment, Transition, Automaton, arity}
 use Rattle.automata.specs.Automaton.Term.{register, parameter, constant}
@@ -59,14 +60,13 @@ pub record FitsGuard (g : Guard) : Type 0 where
 abbrev pub holdsAt : List ℕ → ℕ → ℕ → ℕ → Bool
 holdsAt vals l e r = cond (eqb e 1) (eqb (getD vals l 0) (getD vals r 0)) (not (eqb (getD vals l 0) (getD vals r 0)))
 
--- conditions i, .. , i + n - 1 hold of the values
-unfoldable pub holdsFrom : List ℕ → List ℕ → List ℕ → List ℕ → ℕ → ℕ → Bool
-holdsFrom left equal right vals i zero = true
-holdsFrom left equal right vals i (suc n) = holdsAt vals (getD left i 0) (getD equal i 0) (getD right i 0) && holdsFrom left equal right vals (suc i) n
+-- condition i holds of the values
+abbrev pub conditionHolds : Guard → List ℕ → ℕ → Bool
+conditionHolds g vals i = holdsAt vals (getD (g .left) i 0) (getD (g .equal) i 0) (getD (g .right) i 0)
 
 -- all conditions hold of the values
 abbrev pub holdsAll : Guard → List ℕ → Bool
-holdsAll g vals = holdsFrom (g .left) (g .equal) (g .right) vals 0 (g .count)
+holdsAll g vals = allFrom (conditionHolds g vals) 0 (g .count)
 
 -- the row holds no line, or a condition whose terms have slots
 abbrev pub ConditionFits : List ℕ → ℕ → Type 0

@@ -8,10 +8,12 @@ ghost use Prim.Native.Nat.{ℕ, _+_, _*_, _<_, _≤_};
 ghost use lib.Dec.{T, eqb};
 ghost use lib.ListN.{length, getD, take};
 ghost use Rattle.graphs.specs.Lists.{allOf};
+ghost use Rattle.automata.specs.Automaton.{arity};
 ghost use Rattle.automata.specs.WellFormed.{constantCount, fitsCondition, fitsAssignment};
 ghost use Rattle.automata.specs.Runs.{nowhere};
-ghost use Rattle.forms.specs.TableForm.{formLength, termOf, automatonOf, targetOf};
+ghost use Rattle.forms.specs.TableForm.{formLength, cell, transitionRow, termOf, automatonOf, targetOf};
 ghost use Rattle.forms.specs.Readable.{Readable};
+ghost use Rattle.forms.specs.ClassLabels.{valuesAt};
 ghost use Rattle.forms.specs.Shapes.{shape, shapeOf};
 ghost use Rattle.forms.specs.Slots.{slotOf, flag, guardOf, conditionsFrom, ConditionFits, FitsGuard, guardWith, holdsAt, holdsAll, setsOf, assignmentsFrom, AssignmentFits, setsWith, arcOf};
 
@@ -22,6 +24,12 @@ fn wide(n: u32) -> usize
     ensures { λ r. ⌜ r ≡ n ⌝ }
 {
     n as usize
+}
+
+fn label(x: u8) -> u32
+    ensures { λ r. ⌜ r ≡ x ⌝ }
+{
+    x as u32
 }
 
 // How many registers, constants, locations and transitions the table has.
@@ -76,19 +84,44 @@ pub fn start(form: &[u32]) -> usize
     wide(form[115])
 }
 
+// The number in this column of the line 6 of transition i, counted from 0.
+fn field(form: &[u32], i: usize, column: usize) -> usize
+    requires { ⌜ (length (now form) ≡ formLength) × (i < 64) × (column < 6) ⌝ }
+    ensures { λ r. ⌜ r ≡ cell (now (form .entry)) (transitionRow i) column ⌝ }
+{
+    wide(form[6 * (28 + 14 * i) + column])
+}
+
 // The location that transition i, counted from 0, leaves, and the one that it enters.
 pub fn from(form: &[u32], i: usize) -> usize
     requires { ⌜ Readable (now form) × (i < length (automatonOf (now form) .transitions)) ⌝ }
     ensures { λ r. ⌜ (r ≡ getD (automatonOf (now (form .entry)) .transitions) i nowhere .from) × (1 ≤ r) × (r ≤ 16) ⌝ }
 {
-    wide(form[6 * (28 + 14 * i) + 1])
+    field(form, i, 1)
 }
 
 pub fn to(form: &[u32], i: usize) -> usize
     requires { ⌜ Readable (now form) × (i < length (automatonOf (now form) .transitions)) ⌝ }
     ensures { λ r. ⌜ (r ≡ getD (automatonOf (now (form .entry)) .transitions) i nowhere .to) × (1 ≤ r) × (r ≤ 16) ⌝ }
 {
-    wide(form[6 * (28 + 14 * i) + 3])
+    field(form, i, 3)
+}
+
+// The arity of an action, counted from 1.
+fn action_arity(form: &[u32], action: usize) -> usize
+    requires { ⌜ (length (now form) ≡ formLength) × (action ≤ 16) ⌝ }
+    ensures { λ r. ⌜ r ≡ cell (now (form .entry)) (action + 2) 1 ⌝ }
+{
+    wide(form[6 * (action + 2) + 1])
+}
+
+// How many parameters transition i takes.
+pub fn parameters(form: &[u32], i: usize) -> usize
+    requires { ⌜ Readable (now form) × (i < length (automatonOf (now form) .transitions)) ⌝ }
+    ensures { λ r. ⌜ (r ≡ arity (automatonOf (now (form .entry))) (getD (automatonOf (now (form .entry)) .transitions) i nowhere)) × (r ≤ 3) ⌝ }
+{
+    let action = field(form, i, 2);
+    action_arity(form, action)
 }
 
 // Conditions: condition i says that the values in slots left[i] and right[i] are equal (equal[i] is 1) or different.
@@ -145,7 +178,7 @@ fn sign(relation: u32) -> u8
 
 // The guard with the condition of this row, if it holds one.
 fn with_condition(g: Guard, form: &[u32], row: usize) -> Guard
-    requires { ⌜ (row < 924) × (length (now form) ≡ 5544) × (g .count < 8) × ConditionFits (now form) row ⌝ }
+    requires { ⌜ (row < 924) × (length (now form) ≡ formLength) × (g .count < 8) × ConditionFits (now form) row ⌝ }
     ensures { λ r. ⌜ r ≡ guardWith g (now (form .entry)) row ⌝ }
 {
     let at = 6 * row;
@@ -172,7 +205,7 @@ fn with_condition(g: Guard, form: &[u32], row: usize) -> Guard
 
 // The conditions in the eight rows from this one on.
 pub fn guard_at(form: &[u32], row: usize) -> Guard
-    requires { ⌜ (length (now form) ≡ 5544) × (row + 8 ≤ 924) × T (allOf (fitsCondition 2 5 3) (conditionsFrom (now form) row)) ⌝ }
+    requires { ⌜ (length (now form) ≡ formLength) × (row + 8 ≤ 924) × T (allOf (fitsCondition 2 5 3) (conditionsFrom (now form) row)) ⌝ }
     ensures { λ r. ⌜ r ≡ guardOf (conditionsFrom (now (form .entry)) row) ⌝ }
 {
     let mut g = Guard {
@@ -189,9 +222,17 @@ pub fn guard_at(form: &[u32], row: usize) -> Guard
     g
 }
 
+// The conditions of a target, or of a table's start.
+pub fn target_guard(form: &[u32]) -> Guard
+    requires { ⌜ (length (now form) ≡ formLength) × T (allOf (fitsCondition 2 5 3) (targetOf (now form) .conditions)) ⌝ }
+    ensures { λ r. ⌜ (r ≡ guardOf (targetOf (now (form .entry)) .conditions)) × FitsGuard r ⌝ }
+{
+    guard_at(form, 20)
+}
+
 // The assignments with that of this row, if it holds one.
 fn with_set(s: Sets, form: &[u32], row: usize) -> Sets
-    requires { ⌜ (row < 924) × (length (now form) ≡ 5544) × (s .count < 5) × AssignmentFits (now form) row ⌝ }
+    requires { ⌜ (row < 924) × (length (now form) ≡ formLength) × (s .count < 5) × AssignmentFits (now form) row ⌝ }
     ensures { λ r. ⌜ r ≡ setsWith s (now (form .entry)) row ⌝ }
 {
     let at = 6 * row;
@@ -213,8 +254,8 @@ fn with_set(s: Sets, form: &[u32], row: usize) -> Sets
 }
 
 // The assignments in the five rows from this one on.
-pub fn sets_at(form: &[u32], row: usize) -> Sets
-    requires { ⌜ (length (now form) ≡ 5544) × (row + 5 ≤ 924) × T (allOf (fitsAssignment 2 5 3) (assignmentsFrom (now form) row)) ⌝ }
+fn sets_at(form: &[u32], row: usize) -> Sets
+    requires { ⌜ (length (now form) ≡ formLength) × (row + 5 ≤ 924) × T (allOf (fitsAssignment 2 5 3) (assignmentsFrom (now form) row)) ⌝ }
     ensures { λ r. ⌜ r ≡ setsOf (assignmentsFrom (now (form .entry)) row) ⌝ }
 {
     let mut s = Sets {
@@ -235,26 +276,38 @@ pub fn arc_at(form: &[u32], i: usize) -> Arc
     requires { ⌜ Readable (now form) × (i < length (automatonOf (now form) .transitions)) ⌝ }
     ensures { λ r. ⌜ r ≡ arcOf (automatonOf (now (form .entry))) (getD (automatonOf (now (form .entry)) .transitions) i nowhere) ⌝ }
 {
-    let row = 28 + 14 * i;
-    let at = 6 * row;
-    let from = form[at + 1] as u8;
-    let action = form[at + 2] as u8;
-    let to = form[at + 3] as u8;
-    let params = form[6 * (action as usize + 2) + 1] as u8;
-    let guard = guard_at(form, row + 1);
-    let s = sets_at(form, row + 9);
+    let from = field(form, i, 1);
+    let action = field(form, i, 2);
+    let to = field(form, i, 3);
+    let params = parameters(form, i);
+    let guard = guard_at(form, 29 + 14 * i);
+    let s = sets_at(form, 37 + 14 * i);
     let source = s.source;
     let target = s.target;
     Arc {
-        from: from,
-        action: action,
-        to: to,
-        params: params,
+        from: from as u8,
+        action: action as u8,
+        to: to as u8,
+        params: params as u8,
         guard: guard,
         sets: s.count,
         source: source,
         target: target,
     }
+}
+
+// The values of class k in slots, from the flat list of class labels.
+pub fn class_values(cat: &[u8], k: usize) -> [u32; 10]
+    requires { ⌜ (k < 10000) × (5 * k + 5 ≤ length (now cat)) ⌝ }
+    ensures { λ r. ⌜ r ≡ valuesAt (now (cat .entry)) k ⌝ }
+{
+    let i = 5 * k;
+    let a = label(cat[i]);
+    let b = label(cat[i + 1]);
+    let c = label(cat[i + 2]);
+    let d = label(cat[i + 3]);
+    let e = label(cat[i + 4]);
+    [1, 2, a, b, c, d, e, 0, 0, 0]
 }
 
 fn condition_holds(vals: &[u32; 10], l: u8, e: u8, r: u8) -> bool

@@ -2,150 +2,33 @@
 -- Assumes nothing.
 use native.Mathlib.Omega.{arith}
 use Rattle.forms.proofs.Forms.{located, arc-made}
+use borrow.Author.Needs.{needs}
 use Rattle.forms.proofs.arc_at.Statement.{statement}
 use Rattle.forms.proofs.arc_at.Tie as tie
 use Rattle.forms.proofs.arc_at.Reads as reads
 use Rattle.forms.proofs.arc_at.Lts as lts
+use Rattle.forms.proofs.field.Reads as field-reads
 use Rattle.forms.proofs.guard_at.Reads as guard-at-reads
+use Rattle.forms.proofs.parameters.Reads as parameters-reads
 use Rattle.forms.proofs.sets_at.Reads as sets-at-reads
 
-mul-row : tie.Need-mul-row
-mul-row c =
-    let e = c .before in
-    let f = located (e .args .form .now) (e .pre .0) (e .args .i) (e .pre .1) in
-    omega (arith, e .pre .0 .long)
+field-requires : tie.Need-field-requires
+field-requires c κs = let e = c .before in (e .pre .0 .long, located (e .args .form .now) (e .pre .0) (e .args .i) (e .pre .1) .low, omega arith)
 
-add-row : tie.Need-add-row
-add-row c =
-    let e = c .before in
-    let f = located (e .args .form .now) (e .pre .0) (e .args .i) (e .pre .1) in
-    omega (arith, e .pre .0 .long)
+field-requires-2 : tie.Need-field-requires-2
+field-requires-2 c κs = let e = c .before .before in (e .pre .0 .long, located (e .args .form .now) (e .pre .0) (e .args .i) (e .pre .1) .low, omega arith)
 
-mul-at : tie.Need-mul-at
-mul-at c =
-    let e = c .before in
-    let f = located (e .args .form .now) (e .pre .0) (e .args .i) (e .pre .1) in
-    omega (arith, e .pre .0 .long)
+field-requires-3 : tie.Need-field-requires-3
+field-requires-3 c κs = let e = c .before .before .before in (e .pre .0 .long, located (e .args .form .now) (e .pre .0) (e .args .i) (e .pre .1) .low, omega arith)
 
-add-from : tie.Need-add-from
-add-from c =
-    let e = c .before in
-    let f = located (e .args .form .now) (e .pre .0) (e .args .i) (e .pre .1) in
-    omega (arith, e .pre .0 .long)
+parameters-requires : tie.Need-parameters-requires
+parameters-requires c κs = search needs
 
-mul-from : tie.Need-mul-from
-mul-from c =
-    let e = c .before in
-    let f = located (e .args .form .now) (e .pre .0) (e .args .i) (e .pre .1) in
-    omega (arith, e .pre .0 .long)
-
-shared-slice-read-from : tie.Need-shared-slice-read-from
-shared-slice-read-from c =
-    let e = c .before .before in
-    let f = located (e .args .form .now) (e .pre .0) (e .args .i) (e .pre .1) in
-    omega (arith, e .pre .0 .long)
-
-cast-from : tie.Need-cast-from
-cast-from c =
-    let e = c .before .before in
-    let f = located (e .args .form .now) (e .pre .0) (e .args .i) (e .pre .1) in
-    omega (arith, e .pre .0 .long)
-
-add-action : tie.Need-add-action
-add-action c =
-    let e = c .before .before in
-    let f = located (e .args .form .now) (e .pre .0) (e .args .i) (e .pre .1) in
-    omega (arith, e .pre .0 .long)
-
-mul-action : tie.Need-mul-action
-mul-action c =
-    let e = c .before .before in
-    let f = located (e .args .form .now) (e .pre .0) (e .args .i) (e .pre .1) in
-    omega (arith, e .pre .0 .long)
-
-shared-slice-read-action : tie.Need-shared-slice-read-action
-shared-slice-read-action c =
-    let e = c .before .before .before in
-    let f = located (e .args .form .now) (e .pre .0) (e .args .i) (e .pre .1) in
-    omega (arith, e .pre .0 .long)
-
-cast-action : tie.Need-cast-action
-cast-action c =
-    let e = c .before .before .before in
-    let f = located (e .args .form .now) (e .pre .0) (e .args .i) (e .pre .1) in
-    omega (arith, e .pre .0 .long)
-
-add-to : tie.Need-add-to
-add-to c =
-    let e = c .before .before .before in
-    let f = located (e .args .form .now) (e .pre .0) (e .args .i) (e .pre .1) in
-    omega (arith, e .pre .0 .long)
-
-mul-to : tie.Need-mul-to
-mul-to c =
-    let e = c .before .before .before in
-    let f = located (e .args .form .now) (e .pre .0) (e .args .i) (e .pre .1) in
-    omega (arith, e .pre .0 .long)
-
-shared-slice-read-to : tie.Need-shared-slice-read-to
-shared-slice-read-to c =
-    let e = c .before .before .before .before in
-    let f = located (e .args .form .now) (e .pre .0) (e .args .i) (e .pre .1) in
-    omega (arith, e .pre .0 .long)
-
-cast-to : tie.Need-cast-to
-cast-to c =
-    let e = c .before .before .before .before in
-    let f = located (e .args .form .now) (e .pre .0) (e .args .i) (e .pre .1) in
-    omega (arith, e .pre .0 .long)
-
-cast-params : tie.Need-cast-params
-cast-params c =
-    let e = c .before .before .before .before in
-    let f = located (e .args .form .now) (e .pre .0) (e .args .i) (e .pre .1) in
-    omega (arith, e .pre .0 .long)
-
-add-params : tie.Need-add-params
-add-params c =
-    let e = c .before .before .before .before in
-    let f = located (e .args .form .now) (e .pre .0) (e .args .i) (e .pre .1) in
-    omega (arith, e .pre .0 .long)
-
-mul-params : tie.Need-mul-params
-mul-params c =
-    let e = c .before .before .before .before in
-    let f = located (e .args .form .now) (e .pre .0) (e .args .i) (e .pre .1) in
-    omega (arith, e .pre .0 .long)
-
-add-params-2 : tie.Need-add-params-2
-add-params-2 c =
-    let e = c .before .before .before .before in
-    let f = located (e .args .form .now) (e .pre .0) (e .args .i) (e .pre .1) in
-    omega (arith, e .pre .0 .long)
-
-mul-params-2 : tie.Need-mul-params-2
-mul-params-2 c =
-    let e = c .before .before .before .before in
-    let f = located (e .args .form .now) (e .pre .0) (e .args .i) (e .pre .1) in
-    omega (arith, e .pre .0 .long)
-
-shared-slice-read-params : tie.Need-shared-slice-read-params
-shared-slice-read-params c =
-    let e = c .before .before .before .before .before in
-    let f = located (e .args .form .now) (e .pre .0) (e .args .i) (e .pre .1) in
-    omega (arith, e .pre .0 .long)
-
-cast-params-2 : tie.Need-cast-params-2
-cast-params-2 c =
-    let e = c .before .before .before .before .before in
-    let f = located (e .args .form .now) (e .pre .0) (e .args .i) (e .pre .1) in
-    omega (arith, e .pre .0 .long)
+mul-guard-at : tie.Need-mul-guard-at
+mul-guard-at c = let e = c .before .before .before .before .before in omega (arith, located (e .args .form .now) (e .pre .0) (e .args .i) (e .pre .1) .low)
 
 add-guard-at : tie.Need-add-guard-at
-add-guard-at c =
-    let e = c .before .before .before .before .before in
-    let f = located (e .args .form .now) (e .pre .0) (e .args .i) (e .pre .1) in
-    omega (arith, e .pre .0 .long)
+add-guard-at c = let e = c .before .before .before .before .before in omega (arith, located (e .args .form .now) (e .pre .0) (e .args .i) (e .pre .1) .low)
 
 guard-at-requires : tie.Need-guard-at-requires
 guard-at-requires c κs =
@@ -153,11 +36,11 @@ guard-at-requires c κs =
     let f = located (e .args .form .now) (e .pre .0) (e .args .i) (e .pre .1) in
     (e .pre .0 .long, omega (arith, f .low), f .guard)
 
+mul-sets-at : tie.Need-mul-sets-at
+mul-sets-at c = let e = c .before .before .before .before .before .before in omega (arith, located (e .args .form .now) (e .pre .0) (e .args .i) (e .pre .1) .low)
+
 add-sets-at : tie.Need-add-sets-at
-add-sets-at c =
-    let e = c .before .before .before .before .before .before in
-    let f = located (e .args .form .now) (e .pre .0) (e .args .i) (e .pre .1) in
-    omega (arith, e .pre .0 .long)
+add-sets-at c = let e = c .before .before .before .before .before .before in omega (arith, located (e .args .form .now) (e .pre .0) (e .args .i) (e .pre .1) .low)
 
 sets-at-requires : tie.Need-sets-at-requires
 sets-at-requires c κs =
@@ -165,40 +48,41 @@ sets-at-requires c κs =
     let f = located (e .args .form .now) (e .pre .0) (e .args .i) (e .pre .1) in
     (e .pre .0 .long, omega (arith, f .low), f .assigns)
 
+cast-t13 : tie.Need-cast-t13
+cast-t13 c = let e = c .before .before .before .before .before .before .before .before .before in omega (arith, c .before .before .before .before .before .before .before .field .ensures, located (e .args .form .now) (e .pre .0) (e .args .i) (e .pre .1) .from .1)
+
+cast-t14 : tie.Need-cast-t14
+cast-t14 c = let e = c .before .before .before .before .before .before .before .before .before in omega (arith, c .before .before .before .before .before .before .field2 .ensures, located (e .args .form .now) (e .pre .0) (e .args .i) (e .pre .1) .action .1)
+
+cast-t15 : tie.Need-cast-t15
+cast-t15 c = let e = c .before .before .before .before .before .before .before .before .before in omega (arith, c .before .before .before .before .before .field3 .ensures, located (e .args .form .now) (e .pre .0) (e .args .i) (e .pre .1) .to .1)
+
+cast-t16 : tie.Need-cast-t16
+cast-t16 c = omega (arith, c .before .before .before .before .parameters .ensures .1)
+
 returns : tie.Need-returns
 returns c =
-    let s = c .before .before in
+    let p = c .before .before .before .before in
     let e = c .before .before .before .before .before .before .before .before .before in
-    arc-made (e .args .form .now) (e .pre .0) (e .args .i) (e .pre .1) (s .before .guard-at .ensures) (s .sets-at .ensures)
+    arc-made (e .args .form .now) (e .pre .0) (e .args .i) (e .pre .1) (p .before .before .before .field .ensures) (p .before .before .field2 .ensures)
+    (p .before .field3 .ensures) (p .parameters .ensures .0) (c .before .before .before .guard-at .ensures) (c .before .before .sets-at .ensures)
 
 pub arc-at-spec : {M : Type 1} → statement M
 arc-at-spec =
     tie.close
     (tie.spec
-    mul-row
-    add-row
-    mul-at
-    add-from
-    mul-from
-    shared-slice-read-from
-    cast-from
-    add-action
-    mul-action
-    shared-slice-read-action
-    cast-action
-    add-to
-    mul-to
-    shared-slice-read-to
-    cast-to
-    cast-params
-    add-params
-    mul-params
-    add-params-2
-    mul-params-2
-    shared-slice-read-params
-    cast-params-2
+    field-requires
+    field-requires-2
+    field-requires-3
+    parameters-requires
+    mul-guard-at
     add-guard-at
     guard-at-requires
+    mul-sets-at
     add-sets-at
     sets-at-requires
+    cast-t13
+    cast-t14
+    cast-t15
+    cast-t16
     returns)

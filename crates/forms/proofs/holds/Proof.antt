@@ -3,8 +3,10 @@
 use Prim.Native.Nat.{_≤_, _-_}
 use mathlib.Core.Path.{_≡_, sym, _∙_}
 use native.Mathlib.Omega.{arith}
-use Rattle.forms.specs.Slots.{holdsFrom}
-use Rattle.forms.proofs.Turns.{holds-start, holds-fails, holds-more, holds-done}
+use lib.ListN.{getD}
+use Rattle.lists.specs.Searches.{allFrom}
+use Rattle.lists.proofs.Searches.{all-start, all-fails, all-more, all-done}
+use Rattle.forms.specs.Slots.{holdsAt}
 use borrow.Author.Needs.{needs}
 use Rattle.forms.proofs.holds.Statement.{statement}
 use Rattle.forms.proofs.holds.Tie as tie
@@ -13,7 +15,7 @@ use Rattle.forms.proofs.holds.Lts as lts
 use Rattle.forms.proofs.condition_holds.Reads as condition-holds-reads
 
 abbrev Inv-loop : tie.InvT-loop
-Inv-loop vals n left equal right i₀ i = (i ≤ n) × (holdsFrom left equal right vals i (n - i) ≡ holdsFrom left equal right vals 0 n)
+Inv-loop vals n left equal right i₀ i = (i ≤ n) × (allFrom (λ j. holdsAt vals (getD left j 0) (getD equal j 0) (getD right j 0)) i (n - i) ≡ allFrom (λ j. holdsAt vals (getD left j 0) (getD equal j 0) (getD right j 0)) 0 n)
 
 abbrev μ-loop : tie.MeasureT-loop
 μ-loop vals n left equal right i₀ i = n - i
@@ -22,7 +24,7 @@ cast-n : tie.Need-cast-n Inv-loop μ-loop
 cast-n c = search needs
 
 loop-holds : tie.Need-loop-holds Inv-loop μ-loop
-loop-holds c = (omega arith, holds-start _ _ _ _ _ 0)
+loop-holds c = (omega arith, all-start _ _ 0)
 
 array-read-condition-holds : tie.Need-array-read-condition-holds Inv-loop μ-loop
 array-read-condition-holds c = search needs
@@ -48,15 +50,15 @@ loop-less c = search needs
 loop-again : tie.Need-loop-again Inv-loop μ-loop
 loop-again c =
     let l = c .before .before .before .loop in
-    (omega arith, sym (holds-more _ _ _ _ _ (l .i) (omega arith) (sym (c .before .condition-holds .ensures) ∙ c .if1 .taken)) ∙ l .inv .1)
+    (omega arith, sym (all-more _ _ (l .i) (omega arith) (sym (c .before .condition-holds .ensures) ∙ c .if1 .taken)) ∙ l .inv .1)
 
 returns : tie.Need-returns Inv-loop μ-loop
 returns c =
     let l = c .before .before .before .loop in
-    sym (holds-fails _ _ _ _ _ (l .i) (omega arith) (sym (c .before .condition-holds .ensures) ∙ c .if1 .left)) ∙ l .inv .1
+    sym (all-fails _ _ (l .i) (omega arith) (sym (c .before .condition-holds .ensures) ∙ c .if1 .left)) ∙ l .inv .1
 
 returns-2 : tie.Need-returns-2 Inv-loop μ-loop
-returns-2 c = let l = c .before .loop in sym (holds-done _ _ _ _ _ (l .i) (omega arith)) ∙ l .inv .1
+returns-2 c = let l = c .before .loop in sym (all-done _ _ (l .i) (omega arith)) ∙ l .inv .1
 
 pub holds-spec : {M : Type 1} → statement M
 holds-spec =
