@@ -17,7 +17,7 @@ use Rattle.catalogue.specs.Arrays.{written}
 use Rattle.catalogue.specs.Serving.{labelRows}
 use Rattle.catalogue.proofs.Buffers.{written-begins, written-length, begins-entry}
 use Rattle.catalogue.proofs.LabelRows.{label-rows-length, label-rows-entry}
-use Rattle.conditions.specs.Values.{ClassLabels}
+use Rattle.forms.specs.ClassLabels.{Labels}
 
 -- no counts have more classes than five registers and two constants
 pub classes-most : (r c : ℕ) → r ≤ 5 → c ≤ 2 → length (lists r c) ≤ 674
@@ -38,7 +38,7 @@ pub counts-few : (t : List ℕ) → Readable t → (cell t 0 1 ≤ 5) × (cell t
 unfolding automatonOf
 counts-few t r = (form-limits t r .registers, omega (arith, form-limits t r .constants, constant-count t))
 
-pub labels-held : (t buffer cat : List ℕ) → Readable t → length buffer ≡ 3370 → cat ≡ written (labelRows (cell t 0 1) (cell t 0 2)) buffer → ClassLabels (automatonOf t) cat
+pub labels-held : (t buffer cat : List ℕ) → Readable t → length buffer ≡ 3370 → cat ≡ written (labelRows (cell t 0 1) (cell t 0 2)) buffer → Labels (automatonOf t) cat
 labels-held t buffer cat r room e =
     let q : ℕ = cell t 0 1 in
     let c : ℕ = cell t 0 2 in

@@ -1,6 +1,6 @@
 -- The flat form: a list is judged good exactly if it is the flat form of a run (`judge-good`); so the flat form of every run is judged good (`run-good`).
 -- Assumes nothing.
-use Prim.Native.Nat.{ℕ, zero, suc, _+_, _*_, _-_, _/_, _≤_}
+use Prim.Native.Nat.{ℕ, zero, suc, _+_, _*_, _-_, _/_}
 use mathlib.Core.Bool.{_&&_}
 use mathlib.Core.List.{List, [], _∷_, _++_, map, flatMap, append-assoc}
 use mathlib.Core.Logic.{_↔_}
@@ -16,6 +16,7 @@ use Rattle.automata.specs.Automaton.{Automaton, meets}
 use Rattle.automata.specs.Runs.{State, Move, transitionOf, isStep, after, permitted, initial, follows, isRun}
 use Rattle.automata.specs.WellFormed.{limited}
 use Rattle.lists.specs.Arrays.{padded}
+use Rattle.lists.proofs.Arrays.{padded-length, padded-take}
 use Rattle.forms.proofs.Forms.{Limits, limits}
 use Rattle.replay.specs.declared.Step.{Step}
 use Rattle.replay.specs.declared.Verdict.the-variants.{Good}
@@ -23,12 +24,6 @@ use Rattle.replay.specs.Judge.{restZero, takes, contentsOf, moveOf, tidy
 use Rattle.replay.proofs.Verdicts.{judge-means}
 
 -- Slots and padding
-
-padded-length : (n : ℕ) (xs : List ℕ) → length (padded n xs) ≡ n
-unfolding padded
-padded-length zero xs = refl
-padded-length (suc n) [] = ap suc (padded-length n [])
-padded-length (suc n) (x ∷ xs) = ap suc (padded-length n xs)
 
 -- what is in use, padded, is the whole where the rest is 0
 pad-back : (n r : ℕ) (xs : List ℕ) → length xs ≡ n → T (restZero r xs) → padded n (take r xs) ≡ xs
@@ -43,12 +38,6 @@ pad-back (suc n) zero (x ∷ xs) l t =
     let tail : padded n [] ≡ xs = pad-back n zero xs (omega arith) u in
     cc
 pad-back (suc n) (suc r) (x ∷ xs) l t = ap (λ ys. x ∷ ys) (pad-back n r xs (omega arith) t)
-
-take-padded : (n : ℕ) (xs : List ℕ) → length xs ≤ n → take (length xs) (padded n xs) ≡ xs
-unfolding padded
-take-padded n [] h = refl
-take-padded zero (x ∷ xs) h = absurd (omega arith)
-take-padded (suc n) (x ∷ xs) h = ap (λ ys. x ∷ ys) (take-padded n xs (omega arith))
 
 rest-padded : (n : ℕ) (xs : List ℕ) → T (restZero (length xs) (padded n xs))
 unfolding padded
@@ -140,8 +129,8 @@ module _ (a : Automaton) (lim : T (limited a)) where
     unfolding padStep
     move-back =
         move-path (moveOf a (padStep m)) m refl
-        (ap (λ n. take n (padded 3 (m .parameters))) (sym hp) ∙ take-padded 3 (m .parameters) (omega (arith, few .parameters (transitionOf a (m .transition)))))
-        (ap (λ n. take n (padded 5 (m .valuation))) (sym hw) ∙ take-padded 5 (m .valuation) (omega (arith, few .registers)))
+        (ap (λ n. take n (padded 3 (m .parameters))) (sym hp) ∙ padded-take 3 (m .parameters) (omega (arith, few .parameters (transitionOf a (m .transition)))))
+        (ap (λ n. take n (padded 5 (m .valuation))) (sym hw) ∙ padded-take 5 (m .valuation) (omega (arith, few .registers)))
 
     move-tidy : T (tidy a (padStep m))
     unfolding padStep
@@ -168,7 +157,7 @@ module _ (a : Automaton) (lim : T (limited a)) where
   start-back : (v : List ℕ) → T (permitted a v) → (contentsOf a (padded 5 v) ≡ v) × T (restZero (a .registers) (padded 5 v))
   start-back v t =
       let e : length v ≡ a .registers = eqb→eq (length v) (a .registers) (and-l (eqb (length v) (a .registers)) (allOf (meets (a .constants) v []) (a .starting)) t) in
-      (ap (λ n. take n (padded 5 v)) (sym e) ∙ take-padded 5 v (omega (arith, few .registers)), subst (λ n. T (restZero n (padded 5 v))) e (rest-padded 5 v))
+      (ap (λ n. take n (padded 5 v)) (sym e) ∙ padded-take 5 v (omega (arith, few .registers)), subst (λ n. T (restZero n (padded 5 v))) e (rest-padded 5 v))
 
   -- the padded start and steps of a run are good
   pad-good : (v : List ℕ) (ms : List Move) → T (isRun a v ms) → T (goodRun a (padded 5 v) (map padStep ms))

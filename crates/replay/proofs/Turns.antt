@@ -1,18 +1,17 @@
--- Lists by their entries, and one turn of the loops over slots.
+-- Lists by their entries, and tests of slots one by one.
 -- Assumes nothing.
-use Prim.Native.Nat.{ℕ, zero, suc, _+_, _-_, _≤_, _<_}
-use mathlib.Core.Bool.{Bool, true, false, _&&_}
+use Prim.Native.Nat.{ℕ, zero, suc, _+_, _-_, _≤_}
+use mathlib.Core.Bool.{Bool, _&&_}
 use mathlib.Core.List.{List, [], _∷_}
 use mathlib.Core.Path.{_≡_, refl, sym, ap, _∙_}
 use native.Mathlib.Omega.{arith}
-use borrow.Author.Tests.{eq-eqb, ne-eqb}
 use lib.Dec.{eqb}
 use lib.ListN.{length, getD, take, drop, drop-of-length-le}
 use lib.Seq.{drop-cons, take-all}
+use Rattle.lists.specs.Searches.{allFrom}
 use Rattle.graphs.specs.Lists.{allOf, eqList}
 use Rattle.forms.specs.Slots.{valuesFrom}
 use Rattle.replay.specs.Judge.{restZero}
-use Rattle.replay.specs.Progress.{assignedSlots}
 
 pub and-path : {a b c d : Bool} → a ≡ b → c ≡ d → (a && c) ≡ (b && d)
 and-path e f = λ i. e i && f i
@@ -29,47 +28,15 @@ part-is (suc k) j xs h = ap (take (suc k)) (drop-cons xs j 0 (omega arith)) ∙ 
 pub whole-is : (k : ℕ) (xs : List ℕ) → length xs ≡ k → entries xs 0 k ≡ xs
 whole-is k xs h = sym (part-is k 0 xs (omega arith)) ∙ take-all k xs (omega arith)
 
--- the slots behind the first i, one by one
+-- the slots behind the first i are tested one by one
+pub rest-is : (n i : ℕ) (xs : List ℕ) → length xs - i ≡ n → allFrom (λ j. eqb (getD xs j 0) 0) i n ≡ restZero i xs
+unfolding allFrom
+rest-is zero i xs e = sym (ap (allOf (λ x. eqb x 0)) (drop-of-length-le xs {i = i} (omega arith)))
+rest-is (suc n) i xs e = ap (λ b. eqb (getD xs i 0) 0 && b) (rest-is n (suc i) xs (omega arith)) ∙ sym (ap (allOf (λ x. eqb x 0)) (drop-cons xs i 0 (omega arith)))
 
-rest-turn : (xs : List ℕ) (i : ℕ) → i < length xs → restZero i xs ≡ (eqb (getD xs i 0) 0 && restZero (i + 1) xs)
-rest-turn xs i h =
-    let e : suc i ≡ i + 1 = omega arith in
-    ap (allOf (λ x. eqb x 0)) (drop-cons xs i 0 h) ∙ ap (λ j. eqb (getD xs i 0) 0 && restZero j xs) e
-
-pub rest-more : (xs : List ℕ) (i : ℕ) → i < length xs → getD xs i 0 ≡ 0 → restZero (i + 1) xs ≡ restZero i xs
-rest-more xs i h z = sym (rest-turn xs i h ∙ ap (λ b. b && restZero (i + 1) xs) (eq-eqb (getD xs i 0) 0 z))
-
-pub rest-fails : (xs : List ℕ) (i : ℕ) → i < length xs → (getD xs i 0 ≡ 0 → ⊥) → false ≡ restZero i xs
-rest-fails xs i h z = sym (rest-turn xs i h ∙ ap (λ b. b && restZero (i + 1) xs) (ne-eqb (getD xs i 0) 0 z))
-
-pub rest-done : (xs : List ℕ) (i : ℕ) → length xs ≤ i → true ≡ restZero i xs
-rest-done xs i h = sym (ap (allOf (λ x. eqb x 0)) (drop-of-length-le xs h))
-
--- assignments i to n, one by one
-module _ (old new source target : List ℕ) (n : ℕ) where
-  abbrev pub left : ℕ → Bool
-  left i = eqList (valuesFrom new target i (n - i)) (valuesFrom old source i (n - i))
-
-  module _ (i : ℕ) (h : i < n) where
-    abbrev pub wrote : Bool
-    wrote = eqb (getD new (getD target i 0) 0) (getD old (getD source i 0) 0)
-
-    assigned-turn : left i ≡ (wrote && left (i + 1))
-    assigned-turn =
-        let e : n - i ≡ suc (n - (i + 1)) = omega arith in
-        let s : suc i ≡ i + 1 = omega arith in
-        ap (λ k. eqList (valuesFrom new target i k) (valuesFrom old source i k)) e
-        ∙ ap (λ j. wrote && eqList (valuesFrom new target j (n - (i + 1))) (valuesFrom old source j (n - (i + 1)))) s
-
-    pub assigned-more : wrote ≡ true → left (i + 1) ≡ left i
-    assigned-more z = sym (assigned-turn ∙ ap (λ b. b && left (i + 1)) z)
-
-    pub assigned-fails : wrote ≡ false → false ≡ left i
-    assigned-fails z = sym (assigned-turn ∙ ap (λ b. b && left (i + 1)) z)
-
-  pub assigned-done : (i : ℕ) → n ≤ i → true ≡ left i
-  assigned-done i h = let e : n - i ≡ 0 = omega arith in sym (ap (λ k. eqList (valuesFrom new target i k) (valuesFrom old source i k)) e)
-
-  pub assigned-start : left 0 ≡ assignedSlots old new n source target
-  unfolding assignedSlots
-  assigned-start = let e : n - 0 ≡ n = omega arith in ap (λ k. eqList (valuesFrom new target 0 k) (valuesFrom old source 0 k)) e
+-- and so are assignments
+pub assigned-is : (old new source target : List ℕ) (i n : ℕ)
+    → allFrom (λ j. eqb (getD new (getD target j 0) 0) (getD old (getD source j 0) 0)) i n ≡ eqList (valuesFrom new target i n) (valuesFrom old source i n)
+unfolding allFrom
+assigned-is old new source target i zero = refl
+assigned-is old new source target i (suc n) = ap (λ b. eqb (getD new (getD target i 0) 0) (getD old (getD source i 0) 0) && b) (assigned-is old new source target (suc i) n)

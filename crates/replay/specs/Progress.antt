@@ -4,12 +4,12 @@ use Prim.Native.Nat.{ℕ, _+_}
 use mathlib.Core.Bool.{Bool, true, false, _&&_, not, cond}
 use mathlib.Core.List.{List, [], _∷_, _++_}
 use lib.Dec.{eqb}
-use Rattle.graphs.specs.Lists.{eqList}
+use lib.ListN.{getD}
+use Rattle.lists.specs.Searches.{allFrom}
 use Rattle.automata.specs.Automaton.{Automaton}
 use Rattle.automata.specs.Runs.{State, transitionOf}
-use Rattle.forms.specs.TableForm.{cell}
 use Rattle.forms.specs.declared.Arc.{Arc}
-use Rattle.forms.specs.Slots.{holdsAll, valuesFrom}
+use Rattle.forms.specs.Slots.{holdsAll}
 use Rattle.replay.specs.declared.Step.{Step}
 use Rattle.replay.specs.declared.Progress.{Progress}
 use Rattle.replay.specs.declared.Verdict.{Verdict}
@@ -43,17 +43,17 @@ through a p n (s ∷ ss) = through a (advanced a p n s) (n + 1) ss
 abbrev pub judged : Progress → Verdict
 judged p = cond (p .bad) (Bad (p .moment)) Good
 
--- the values in their slots: constants, five of contents, three of parameters
+-- the values in their slots: two of constants, five of contents, three of parameters
 abbrev pub slotValues : List ℕ → List ℕ → List ℕ → List ℕ
-slotValues t v ps = cell t 1 1 ∷ cell t 2 1 ∷ (v ++ ps)
+slotValues cs v ps = getD cs 0 0 ∷ getD cs 1 0 ∷ (v ++ ps)
 
 -- the first n assignments hold: the new values hold in the target slots what the old ones have in the source slots
-unfoldable pub assignedSlots : List ℕ → List ℕ → ℕ → List ℕ → List ℕ → Bool
-assignedSlots old new n source target = eqList (valuesFrom new target 0 n) (valuesFrom old source 0 n)
+abbrev pub assignedSlots : List ℕ → List ℕ → ℕ → List ℕ → List ℕ → Bool
+assignedSlots old new n source target = allFrom (λ i. eqb (getD new (getD target i 0) 0) (getD old (getD source i 0) 0)) 0 n
 
--- the transition makes the step from this place and these contents, and the unused slots are 0
-unfoldable pub madeBy : List ℕ → Arc → ℕ → List ℕ → Step → Bool
-madeBy t x place v s =
-    eqb (x .from) place && holdsAll (x .guard) (slotValues t v (s .params))
-    && assignedSlots (slotValues t v (s .params)) (slotValues t (s .next) (s .params)) (x .sets) (x .source) (x .target)
-    && (restZero (x .params) (s .params) && restZero (cell t 0 1) (s .next))
+-- the transition makes the step from this place and these contents, with these constants and this number of registers, and the unused slots are 0
+unfoldable pub madeBy : List ℕ → ℕ → Arc → ℕ → List ℕ → Step → Bool
+madeBy cs registers x place v s =
+    eqb (x .from) place && holdsAll (x .guard) (slotValues cs v (s .params))
+    && assignedSlots (slotValues cs v (s .params)) (slotValues cs (s .next) (s .params)) (x .sets) (x .source) (x .target)
+    && (restZero (x .params) (s .params) && restZero registers (s .next))

@@ -51,13 +51,12 @@ fn place_of(x: u8) -> u32
 }
 
 // The values of constants, registers and parameters, in their slots.
-fn slot_values(form: &[u32], contents: [u32; 5], params: [u32; 3]) -> [u32; 10]
-    requires { ⌜ length (now form) ≡ 5544 ⌝ }
-    ensures { λ r. ⌜ r ≡ slotValues (now (form .entry)) contents params ⌝ }
+fn slot_values(constants: [u32; 2], contents: [u32; 5], params: [u32; 3]) -> [u32; 10]
+    ensures { λ r. ⌜ r ≡ slotValues constants contents params ⌝ }
 {
     [
-        form[7],
-        form[13],
+        constants[0],
+        constants[1],
         contents[0],
         contents[1],
         contents[2],
@@ -124,21 +123,28 @@ fn tidy(s: Step, params: usize, registers: usize) -> bool
 }
 
 // Whether the transition makes the step from this place and these contents, and the unused slots are 0.
-fn made(form: &[u32], x: Arc, place: u32, contents: [u32; 5], s: Step) -> bool
-    requires { ⌜ (length (now form) ≡ 5544) × Fits x ⌝ }
-    ensures { λ r. ⌜ r ≡ madeBy (now (form .entry)) x place contents s ⌝ }
+fn made(
+    constants: [u32; 2],
+    registers: usize,
+    x: Arc,
+    place: u32,
+    contents: [u32; 5],
+    s: Step,
+) -> bool
+    requires { ⌜ Fits x ⌝ }
+    ensures { λ r. ⌜ r ≡ madeBy constants registers x place contents s ⌝ }
 {
     let params = s.params;
     let next = s.next;
     let guard = x.guard;
     let source = x.source;
     let target = x.target;
-    let old = slot_values(form, contents, params);
-    let new = slot_values(form, next, params);
+    let old = slot_values(constants, contents, params);
+    let new = slot_values(constants, next, params);
     let leaves = place_of(x.from) == place;
     let met = forms::holds(guard, &old);
     let moved = assigned_slots(&old, &new, wide8(x.sets), source, target);
-    leaves & met & moved & tidy(s, wide8(x.params), wide(form[1]))
+    leaves & met & moved & tidy(s, wide8(x.params), registers)
 }
 
 fn stop(p: Progress, moment: usize) -> Progress
@@ -158,12 +164,13 @@ pub fn started(form: &[u32], start: [u32; 5]) -> Progress
     requires { ⌜ Readable (now form) ⌝ }
     ensures { λ r. ⌜ r ≡ begun (automatonOf (now (form .entry))) start ⌝ }
 {
-    let guard = forms::guard_at(form, 20);
-    let vals = slot_values(form, start, [0, 0, 0]);
+    let guard = forms::target_guard(form);
+    let vals = slot_values(forms::constant_values(form), start, [0, 0, 0]);
     let met = forms::holds(guard, &vals);
-    let tidy = rest_zero(&start, wide(form[1]));
+    let tidy = rest_zero(&start, forms::registers(form));
+    let place = forms::start(form);
     Progress {
-        place: form[115],
+        place: place as u32,
         contents: start,
         bad: !(met & tidy),
         moment: 0,
@@ -183,12 +190,13 @@ pub fn advance(form: &[u32], p: Progress, moment: usize, s: Step) -> Progress
     if arc == 0 {
         return stop(p, moment);
     }
-    if wide(form[5]) < arc {
+    if forms::transitions(form) < arc {
         return stop(p, moment);
     }
     let x = forms::arc_at(form, arc - 1);
+    let constants = forms::constant_values(form);
     let contents = p.contents;
-    if made(form, x, p.place, contents, s) {
+    if made(constants, forms::registers(form), x, p.place, contents, s) {
         let next = s.next;
         Progress {
             place: place_of(x.to),

@@ -1,15 +1,14 @@
 -- `opening::classes_start` meets its contract. Assumes nothing.
 use Prim.Native.Nat.{_≤_}
 use mathlib.Core.Path.{_≡_, sym, ap, ap₂, _∙_, subst⁻¹}
-use native.Mathlib.Omega.{arith}
 use borrow.Author.Needs.{needs}
 use lib.ListN.{length}
 use Rattle.classes.specs.Classes.{lists}
 use Rattle.automata.specs.Configurations.{classes}
-use Rattle.forms.specs.TableForm.{cell, automatonOf}
+use Rattle.forms.specs.TableForm.{automatonOf}
 use Rattle.catalogue.specs.Arrays.{written}
 use Rattle.catalogue.specs.Serving.{labelRows}
-use Rattle.opening.proofs.Labels.{classes-most, classes-are, counts-few, labels-held}
+use Rattle.opening.proofs.Labels.{classes-are, counts-few, labels-held}
 use Rattle.opening.proofs.classes_start.Statement.{statement}
 use Rattle.opening.proofs.classes_start.Tie as tie
 use Rattle.opening.proofs.classes_start.Reads as reads
@@ -46,15 +45,13 @@ class-count-requires c κs =
 has-start-requires : tie.Need-has-start-requires
 has-start-requires c κs =
     let e = c .before .before .before .before .before .before .before .before .before .before .before .before in
-    let (few, low) = counts-few (e .args .form .now) (e .pre .0) in
     let t = e .args .form .now in
     let w = c .before .before .before .before .before .before .before .before .wide .ensures in
     let w₂ = c .before .before .before .before .before .before .wide2 .ensures in
     let held = c .before .before .before .before .fill-classes .ensures ∙ ap₂ (λ q k. written (labelRows q k) (e .args .flat .now)) w w₂ in
     let counted : c .before .class-count .result ≡ length (classes (automatonOf t)) =
     c .before .class-count .ensures ∙ ap₂ (λ q k. length (lists q k)) w w₂ ∙ sym (ap length (classes-are t)) in
-    let most : length (lists (cell t 0 1) (cell t 0 2)) ≤ 674 = classes-most (cell t 0 1) (cell t 0 2) few low in
-    (e .pre .0, labels-held t (e .args .flat .now) _ (e .pre .0) (e .pre .1) held, counted, omega (arith, counted, ap length (classes-are t), most))
+    record { readable = e .pre .0; labels = labels-held t (e .args .flat .now) _ (e .pre .0) (e .pre .1) held; count = counted }
 
 same-length : tie.Need-same-length
 same-length c = search needs

@@ -3,20 +3,23 @@
 use Prim.Native.Nat.{_-_, _≤_}
 use mathlib.Core.Path.{_≡_, sym, _∙_}
 use native.Mathlib.Omega.{arith}
+use lib.Dec.{eqb}
+use lib.ListN.{getD}
 use Rattle.replay.specs.Progress.{assignedSlots}
-use Rattle.replay.proofs.Turns.{left, assigned-more, assigned-fails, assigned-done, assigned-start}
+use Rattle.lists.specs.Searches.{allFrom}
+use Rattle.lists.proofs.Searches.{all-start, all-fails, all-more, all-done}
 use borrow.Author.Needs.{needs}
 use Rattle.replay.proofs.assigned_slots.Statement.{statement}
 use Rattle.replay.proofs.assigned_slots.Tie as tie
 
 abbrev Inv-loop : tie.InvT-loop
-Inv-loop old new n source target i₀ i = (i ≤ n) × (left old new source target n i ≡ assignedSlots old new n source target)
+Inv-loop old new n source target i₀ i = (i ≤ n) × (allFrom (λ j. eqb (getD new (getD target j 0) 0) (getD old (getD source j 0) 0)) i (n - i) ≡ assignedSlots old new n source target)
 
 abbrev μ-loop : tie.MeasureT-loop
 μ-loop old new n source target i₀ i = n - i
 
 loop-holds : tie.Need-loop-holds Inv-loop μ-loop
-loop-holds c = (omega arith, assigned-start _ _ _ _ _)
+loop-holds c = (omega arith, all-start _ _ 0)
 
 array-read-assigned : tie.Need-array-read-assigned Inv-loop μ-loop
 array-read-assigned c = search needs
@@ -36,13 +39,13 @@ loop-less c = search needs
 loop-again : tie.Need-loop-again Inv-loop μ-loop
 loop-again c =
     let l = c .before .before .before .loop in
-    (omega arith, assigned-more _ _ _ _ _ (l .i) (omega arith) (sym (c .before .assigned .ensures) ∙ c .if1 .taken) ∙ l .inv .1)
+    (omega arith, sym (all-more _ _ (l .i) (omega arith) (sym (c .before .assigned .ensures) ∙ c .if1 .taken)) ∙ l .inv .1)
 
 returns : tie.Need-returns Inv-loop μ-loop
-returns c = let l = c .before .before .before .loop in assigned-fails _ _ _ _ _ (l .i) (omega arith) (sym (c .before .assigned .ensures) ∙ c .if1 .left) ∙ l .inv .1
+returns c = let l = c .before .before .before .loop in sym (all-fails _ _ (l .i) (omega arith) (sym (c .before .assigned .ensures) ∙ c .if1 .left)) ∙ l .inv .1
 
 returns-2 : tie.Need-returns-2 Inv-loop μ-loop
-returns-2 c = let l = c .before .loop in assigned-done _ _ _ _ _ (l .i) (c .loop-test .left) ∙ l .inv .1
+returns-2 c = let l = c .before .loop in sym (all-done _ _ (l .i) (c .loop-test .left)) ∙ l .inv .1
 
 pub assigned-slots-spec : {M : Type 1} → statement M
 assigned-slots-spec =

@@ -1,23 +1,27 @@
 -- `replay::rest_zero` meets its contract: the slots from i on decide.
 -- Assumes nothing.
 use Prim.Native.Nat.{_-_}
-use mathlib.Core.Path.{_≡_, refl, _∙_}
+use mathlib.Core.Path.{_≡_, refl, sym, _∙_}
 use native.Mathlib.Omega.{arith}
-use lib.ListN.{length}
-use Rattle.replay.proofs.Turns.{rest-more, rest-fails, rest-done, left}
+use borrow.Author.Tests.{eq-eqb, ne-eqb}
+use lib.Dec.{eqb}
+use lib.ListN.{length, getD}
+use Rattle.lists.specs.Searches.{allFrom}
+use Rattle.lists.proofs.Searches.{all-fails, all-more, all-done}
+use Rattle.replay.proofs.Turns.{rest-is}
 use Rattle.replay.specs.Judge.{restZero}
 use borrow.Author.Needs.{needs}
 use Rattle.replay.proofs.rest_zero.Statement.{statement}
 use Rattle.replay.proofs.rest_zero.Tie as tie
 
 abbrev Inv-loop : tie.InvT-loop
-Inv-loop xs n i₀ i = restZero i xs ≡ restZero n xs
+Inv-loop xs n i₀ i = allFrom (λ j. eqb (getD xs j 0) 0) i (length xs - i) ≡ restZero n xs
 
 abbrev μ-loop : tie.MeasureT-loop
 μ-loop xs n i₀ i = length xs - i
 
 loop-holds : tie.Need-loop-holds Inv-loop μ-loop
-loop-holds c = refl
+loop-holds c = rest-is _ (c .args .n) (c .args .xs .now) refl
 
 mul-if1 : tie.Need-mul-if1 Inv-loop μ-loop
 mul-if1 c = search needs
@@ -26,7 +30,7 @@ shared-slice-read-if1 : tie.Need-shared-slice-read-if1 Inv-loop μ-loop
 shared-slice-read-if1 c = search needs
 
 returns : tie.Need-returns Inv-loop μ-loop
-returns c = let l = c .before .before .before .loop in rest-fails _ (l .i) (omega arith) (c .if1 .taken) ∙ l .inv
+returns c = let l = c .before .before .before .loop in sym (all-fails _ _ (l .i) (omega arith) (ne-eqb _ 0 (c .if1 .taken))) ∙ l .inv
 
 add-i : tie.Need-add-i Inv-loop μ-loop
 add-i c = search needs
@@ -35,10 +39,10 @@ loop-less : tie.Need-loop-less Inv-loop μ-loop
 loop-less c = search needs
 
 loop-again : tie.Need-loop-again Inv-loop μ-loop
-loop-again c = let l = c .before .before .before .loop in rest-more _ (l .i) (omega arith) (c .if1 .left) ∙ l .inv
+loop-again c = let l = c .before .before .before .loop in sym (all-more _ _ (l .i) (omega arith) (eq-eqb _ 0 (c .if1 .left))) ∙ l .inv
 
 returns-2 : tie.Need-returns-2 Inv-loop μ-loop
-returns-2 c = let l = c .before .loop in rest-done _ (l .i) (c .loop-test .left) ∙ l .inv
+returns-2 c = let l = c .before .loop in sym (all-done _ _ (l .i) (c .loop-test .left)) ∙ l .inv
 
 pub rest-zero-spec : {M : Type 1} → statement M
 rest-zero-spec =

@@ -8,12 +8,11 @@ use Rattle.replay.proofs.Turns.{entries, whole-is}
 use borrow.Author.Needs.{needs}
 use Rattle.replay.proofs.slot_values.Statement.{statement}
 use Rattle.replay.proofs.slot_values.Tie as tie
+use Rattle.replay.proofs.slot_values.Reads as reads
+use Rattle.replay.proofs.slot_values.Lts as lts
 
-shared-slice-read-t7 : tie.Need-shared-slice-read-t7
-shared-slice-read-t7 c = search needs
-
-shared-slice-read-t9 : tie.Need-shared-slice-read-t9
-shared-slice-read-t9 c = search needs
+array-read-t9 : tie.Need-array-read-t9
+array-read-t9 c = search needs
 
 array-read-t12 : tie.Need-array-read-t12
 array-read-t12 c = search needs
@@ -39,20 +38,22 @@ array-read-t30 c = search needs
 array-read-t33 : tie.Need-array-read-t33
 array-read-t33 c = search needs
 
+array-read-t36 : tie.Need-array-read-t36
+array-read-t36 c = search needs
+
 returns : tie.Need-returns
 returns c =
-    let e = c .before .before .args in
+    let e = c .args in
     let v : length (e .t2) ≡ 5 = search needs in
     let p : length (e .t3) ≡ 3 = search needs in
-    let f : List ℕ → List ℕ = λ xs. getD (e .form .now) 7 0 ∷ getD (e .form .now) 13 0 ∷ xs in
+    let f : List ℕ → List ℕ = λ xs. getD (e .t1) 0 0 ∷ getD (e .t1) 1 0 ∷ xs in
     ap (λ xs. f (xs ++ entries (e .t3) 0 3)) (whole-is 5 (e .t2) v) ∙ ap (λ xs. f (e .t2 ++ xs)) (whole-is 3 (e .t3) p)
 
 pub slot-values-spec : {M : Type 1} → statement M
 slot-values-spec =
     tie.close
     (tie.spec
-    shared-slice-read-t7
-    shared-slice-read-t9
+    array-read-t9
     array-read-t12
     array-read-t15
     array-read-t18
@@ -61,4 +62,5 @@ slot-values-spec =
     array-read-t27
     array-read-t30
     array-read-t33
+    array-read-t36
     returns)

@@ -1,6 +1,5 @@
 -- `replay::verdict_of` meets its contract.
 -- Assumes nothing.
-use Rattle.replay.proofs.Turns.{left}
 use Rattle.replay.proofs.verdict_of.Statement.{statement}
 use Rattle.replay.proofs.verdict_of.Tie as tie
 
