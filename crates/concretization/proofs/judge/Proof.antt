@@ -1,0 +1,55 @@
+-- `concretization::judge` meets its contract.
+-- Assumes nothing.
+use mathlib.Core.Bool.{true, false}
+use mathlib.Core.Path.{sym, ap, _∙_}
+use native.Mathlib.Omega.{arith}
+use Rattle.concretization.specs.Noting.{known}
+use Rattle.concretization.specs.Seeking.{foundOf}
+use Rattle.concretization.proofs.Padding.{tidy-wider}
+use Rattle.concretization.proofs.Seeks.{judge-guard, judge-labels}
+use Rattle.concretization.proofs.judge.Statement.{statement}
+use Rattle.concretization.proofs.judge.Tie as tie
+
+holds-requires : tie.Need-holds-requires
+holds-requires c κs = c .before .before .pre .0 .guard-fits
+
+cast-scan : tie.Need-cast-scan
+cast-scan c = omega (arith, c .before .before .before .before .before .before .pre .0 .sets-fit)
+
+scan-requires : tie.Need-scan-requires
+scan-requires c κs = let e = c .before .before .before .before .before .before in (tidy-wider 2 (e .args .base) (e .pre .1) 12 (omega arith), e .pre .0 .sets-fit, e .pre .0 .source-fits)
+
+same-requires : tie.Need-same-requires
+same-requires c κs = tt
+
+returns : tie.Need-returns
+unfolding foundOf
+returns c =
+    let e = c .before .before .before .before .before .before .before .before .before .before .args in
+    judge-labels (e .arc) (known (e .base)) (e .wanted) (e .t4) true (sym (c .before .before .before .before .before .before .before .holds .ensures) ∙ c .before .before .before .before .before .before .if1 .taken)
+    (ap (λ r. r .labels) (c .before .before .before .scan .ensures)) (sym (c .before .same .ensures) ∙ c .if2 .taken)
+
+returns-2 : tie.Need-returns-2
+unfolding foundOf
+returns-2 c =
+    let e = c .before .before .before .before .before .before .before .before .before .before .args in
+    judge-labels (e .arc) (known (e .base)) (e .wanted) (e .t4) false (sym (c .before .before .before .before .before .before .before .holds .ensures) ∙ c .before .before .before .before .before .before .if1 .taken)
+    (ap (λ r. r .labels) (c .before .before .before .scan .ensures)) (sym (c .before .same .ensures) ∙ c .if2 .left)
+
+returns-3 : tie.Need-returns-3
+unfolding foundOf
+returns-3 c =
+    let e = c .before .before .before .before .args in
+    judge-guard (e .arc) (known (e .base)) (e .wanted) (e .t4) (sym (c .before .holds .ensures) ∙ c .if1 .left)
+
+pub judge-spec : {M : Type 1} → statement M
+judge-spec =
+    tie.close
+    (tie.spec
+    holds-requires
+    cast-scan
+    scan-requires
+    same-requires
+    returns
+    returns-2
+    returns-3)

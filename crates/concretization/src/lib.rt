@@ -1,0 +1,462 @@
+// The smallest move from real contents to the next configuration: the smallest parameters that fit, then the smallest new contents.
+
+ghost use mathlib.Core.Path.{_≡_};
+ghost use mathlib.Core.Bool.{cond, true, _&&_};
+ghost use mathlib.Core.List.{[], _∷_, _++_};
+ghost use Prim.Native.Nat.{ℕ, suc, _+_, _-_, _<_, _≤_};
+ghost use lib.Dec.{eqb, ltb, leb};
+ghost use lib.ListN.{length, getD, take};
+ghost use Rattle.graphs.specs.Lists.{first, eqList, upFrom};
+ghost use Rattle.classes.specs.Classes.{position, noted, fresh, identifier, identifiers, notes};
+ghost use Rattle.moves.specs.Moves.{pool, joins, smallest};
+ghost use Rattle.automata.specs.Runs.{transitionOf};
+ghost use Rattle.forms.specs.TableForm.{automatonOf};
+ghost use Rattle.forms.specs.Readable.{Readable};
+ghost use Rattle.forms.specs.Slots.{Fits, padded};
+ghost use Rattle.concretization.specs.Noting.{known, seenOf, Tidy, scanned};
+ghost use Rattle.concretization.specs.Seeking.{worth, tries, suits, foundOf, slotsOf, labelSlots, wantedOf, sought, newContents};
+ghost use Rattle.concretization.specs.Asking.{stateAt, classAt, Posed, moveBy, paddedMove};
+use forms::Arc;
+
+// Identifiers in order: those that have a label, or those to choose from.
+pub struct Seen {
+    pub count: usize,
+    pub ids: [u32; 17],
+}
+
+// The labels of some values, and the identifiers that have a label afterwards.
+pub struct Labelled {
+    pub labels: [u8; 5],
+    pub seen: Seen,
+}
+
+// The values in slots with parameters that were found.
+pub struct Found {
+    pub found: bool,
+    pub vals: [u32; 10],
+}
+
+// One step of a run: the number of the transition, from 1, the parameters and the new contents; transition 0 where there is none.
+pub struct Move {
+    pub arc: u32,
+    pub params: [u32; 3],
+    pub next: [u32; 5],
+}
+
+// The place of x among the identifiers, or their number.
+fn place(s: Seen, x: u32) -> usize
+    requires { ⌜ Tidy 17 s ⌝ }
+    ensures { λ r. ⌜ r ≡ position (known s) x ⌝ }
+{
+    let n = s.count;
+    let ids = s.ids;
+    let mut i = 0;
+    while i < n {
+        if ids[i] == x {
+            return i;
+        }
+        i += 1;
+    }
+    i
+}
+
+// One identifier more.
+fn push(s: Seen, x: u32) -> Seen
+    requires { ⌜ Tidy 16 s ⌝ }
+    ensures { λ r. ⌜ r ≡ seenOf (known s ++ (x ∷ [])) ⌝ }
+{
+    let n = s.count;
+    let mut ids = s.ids;
+    ids[n] = x;
+    Seen {
+        count: n + 1,
+        ids: ids,
+    }
+}
+
+// x has a label from now on.
+fn note(s: Seen, x: u32) -> Seen
+    requires { ⌜ Tidy 16 s ⌝ }
+    ensures { λ r. ⌜ r ≡ seenOf (noted (known s) x) ⌝ }
+{
+    if place(s, x) < s.count {
+        return s;
+    }
+    push(s, x)
+}
+
+// The smallest identifier that is none of these.
+fn smallest_other(s: Seen) -> u32
+    requires { ⌜ Tidy 17 s ⌝ }
+    ensures { λ r. ⌜ r ≡ fresh (known s) ⌝ }
+{
+    let n = s.count;
+    let mut left = n;
+    let mut i: u32 = 0;
+    while 0 < left {
+        if place(s, i) == n {
+            return i;
+        }
+        i += 1;
+        left -= 1;
+    }
+    i
+}
+
+// The identifier of a label.
+fn identifier_of(s: Seen, label: u8) -> u32
+    requires { ⌜ Tidy 17 s × (1 ≤ label) ⌝ }
+    ensures { λ r. ⌜ r ≡ identifier (known s) label ⌝ }
+{
+    let n = s.count;
+    let ids = s.ids;
+    let x = label as usize;
+    if n < x {
+        return smallest_other(s);
+    }
+    ids[x - 1]
+}
+
+// The labels of the values in the first n slots, given the identifiers that have a label already.
+fn scan(s: Seen, vals: [u32; 10], slots: [u8; 5], n: usize) -> Labelled
+    requires { ⌜ Tidy 12 s × (n ≤ 5) × ((i : ℕ) → getD slots i 0 < 10) ⌝ }
+    ensures { λ r. ⌜ r ≡ scanned s vals slots n ⌝ }
+{
+    let mut seen = s;
+    let mut labels = [0u8; 5];
+    let mut i = 0;
+    while i < n {
+        let j = slots[i] as usize;
+        let x = vals[j];
+        labels[i] = (place(seen, x) + 1) as u8;
+        seen = note(seen, x);
+        i += 1;
+    }
+    Labelled {
+        labels: labels,
+        seen: seen,
+    }
+}
+
+// The smallest identifiers that have these n labels, given the identifiers that have a label already.
+fn unscan(s: Seen, labels: [u8; 5], n: usize) -> [u32; 5]
+    requires { ⌜ Tidy 12 s × (n ≤ 5) × ((i : ℕ) → i < n → 1 ≤ getD labels i 0) ⌝ }
+    ensures { λ r. ⌜ r ≡ padded 5 (identifiers (known s) (take n labels)) ⌝ }
+{
+    let mut seen = s;
+    let mut ids = [0u32; 5];
+    let mut i = 0;
+    while i < n {
+        let d = identifier_of(seen, labels[i]);
+        ids[i] = d;
+        seen = note(seen, d);
+        i += 1;
+    }
+    ids
+}
+
+// The first c of two constants.
+fn constants_seen(constants: [u32; 2], c: usize) -> Seen
+    requires { ⌜ c ≤ 2 ⌝ }
+    ensures { λ r. ⌜ r ≡ seenOf (take c constants) ⌝ }
+{
+    let none = Seen {
+        count: 0,
+        ids: [0, 0, 0, 0, 0, 0, 0, 0, 0, 0, 0, 0, 0, 0, 0, 0, 0],
+    };
+    if c == 0 {
+        return none;
+    }
+    let one = push(none, constants[0]);
+    if c == 1 {
+        return one;
+    }
+    push(one, constants[1])
+}
+
+// One identifier more, if it is larger than 14.
+fn push_large(s: Seen, x: u32) -> Seen
+    requires { ⌜ Tidy 16 s ⌝ }
+    ensures { λ r. ⌜ r ≡ seenOf (cond (leb 15 x) (known s ++ (x ∷ [])) (known s)) ⌝ }
+{
+    if 15 <= x {
+        return push(s, x);
+    }
+    s
+}
+
+// The identifiers to choose from: 0 to 14 and the larger constants.
+fn choices(constants: [u32; 2], c: usize) -> Seen
+    requires { ⌜ c ≤ 2 ⌝ }
+    ensures { λ r. ⌜ r ≡ seenOf (pool 15 (take c constants)) ⌝ }
+{
+    let small = Seen {
+        count: 15,
+        ids: [0, 1, 2, 3, 4, 5, 6, 7, 8, 9, 10, 11, 12, 13, 14, 0, 0],
+    };
+    if c == 0 {
+        return small;
+    }
+    let one = push_large(small, constants[0]);
+    if c == 1 {
+        return one;
+    }
+    push_large(one, constants[1])
+}
+
+// Whether x is one of these, or the smallest other, which is f.
+fn worth_trying(s: Seen, f: u32, x: u32) -> bool
+    requires { ⌜ Tidy 17 s × (f ≡ fresh (known s)) ⌝ }
+    ensures { λ r. ⌜ r ≡ worth (known s) x ⌝ }
+{
+    if place(s, x) < s.count {
+        return true;
+    }
+    x == f
+}
+
+// Whether two lists of labels are the same.
+fn same(a: [u8; 5], b: [u8; 5]) -> bool
+    ensures { λ r. ⌜ r ≡ eqList a b ⌝ }
+{
+    let mut i = 0;
+    while i < 5 {
+        if a[i] == b[i] {
+            i += 1;
+        } else {
+            return false;
+        }
+    }
+    true
+}
+
+// These values, if with them the guard holds and the values written have the labels wanted.
+fn judge(arc: Arc, base: Seen, wanted: [u8; 5], vals: [u32; 10]) -> Found
+    requires { ⌜ Fits arc × Tidy 2 base ⌝ }
+    ensures { λ r. ⌜ r ≡ foundOf (first (suits arc (known base) wanted) (vals ∷ [])) ⌝ }
+{
+    let guard = arc.guard;
+    let nothing = Found {
+        found: false,
+        vals: [0, 0, 0, 0, 0, 0, 0, 0, 0, 0],
+    };
+    if forms::holds(guard, &vals) {
+        let source = arc.source;
+        let written = scan(base, vals, source, arc.sets as usize);
+        let labels = written.labels;
+        if same(labels, wanted) {
+            return Found {
+                found: true,
+                vals: vals,
+            };
+        }
+        return nothing;
+    }
+    nothing
+}
+
+// The first values that suit, of those tried for the parameters from depth on.
+fn seek(
+    arc: Arc,
+    base: Seen,
+    wanted: [u8; 5],
+    pool: &[u32],
+    depth: usize,
+    seen: Seen,
+    vals: [u32; 10],
+) -> Found
+    requires { ⌜ Fits arc × Tidy 2 base × (depth ≤ arc .params) × Tidy (12 + depth) seen ⌝ }
+    ensures { λ r. ⌜ r ≡ foundOf (first (suits arc (known base) wanted) (tries (now (pool .entry)) (arc .params - depth) (7 + depth) (known seen) vals)) ⌝ }
+{
+    if depth == arc.params as usize {
+        return judge(arc, base, wanted, vals);
+    }
+    let f = smallest_other(seen);
+    let mut i = 0;
+    while i < pool.len() {
+        let x = pool[i];
+        if worth_trying(seen, f, x) {
+            let mut w = vals;
+            w[7 + depth] = x;
+            let r = seek(arc, base, wanted, pool, depth + 1, note(seen, x), w);
+            if r.found {
+                return r;
+            }
+        }
+        i += 1;
+    }
+    Found {
+        found: false,
+        vals: [0, 0, 0, 0, 0, 0, 0, 0, 0, 0],
+    }
+}
+
+fn wide(x: u8) -> u32
+    ensures { λ r. ⌜ r ≡ x ⌝ }
+{
+    x as u32
+}
+
+// Constants and contents in their slots.
+fn slots(constants: [u32; 2], contents: [u32; 5]) -> [u32; 10]
+    ensures { λ r. ⌜ r ≡ slotsOf constants contents ⌝ }
+{
+    [
+        constants[0],
+        constants[1],
+        contents[0],
+        contents[1],
+        contents[2],
+        contents[3],
+        contents[4],
+        0,
+        0,
+        0,
+    ]
+}
+
+// The labels of constants and of a class in their slots.
+fn label_slots(labels: [u8; 5]) -> [u32; 10]
+    ensures { λ r. ⌜ r ≡ labelSlots labels ⌝ }
+{
+    slots(
+        [1, 2],
+        [
+            wide(labels[0]),
+            wide(labels[1]),
+            wide(labels[2]),
+            wide(labels[3]),
+            wide(labels[4]),
+        ],
+    )
+}
+
+// What a class holds in the registers that the transition assigns: its labels, and those noted then.
+fn held(arc: Arc, c: usize, next: [u8; 5]) -> Labelled
+    requires { ⌜ Fits arc × (c ≤ 2) ⌝ }
+    ensures { λ r. ⌜ r ≡ scanned (seenOf (upFrom 1 c)) (labelSlots next) (arc .target) (arc .sets) ⌝ }
+{
+    let target = arc.target;
+    scan(
+        constants_seen([1, 2], c),
+        label_slots(next),
+        target,
+        arc.sets as usize,
+    )
+}
+
+// The smallest parameters with which the transition leads from r contents to the next class, in their slots.
+pub fn parameters(
+    arc: Arc,
+    constants: [u32; 2],
+    c: usize,
+    contents: [u32; 5],
+    r: usize,
+    next: [u8; 5],
+) -> Found
+    requires { ⌜ Fits arc × (c ≤ 2) × (r ≤ 5) ⌝ }
+    ensures { λ f. ⌜ f ≡ foundOf (sought arc (take c constants) (take r contents) (slotsOf constants contents) next) ⌝ }
+{
+    let base = constants_seen(constants, c);
+    let vals = slots(constants, contents);
+    let wanted = held(arc, c, next).labels;
+    let seen = scan(base, vals, [2, 3, 4, 5, 6], r).seen;
+    let pool = choices(constants, c);
+    let n = pool.count;
+    let ids = pool.ids;
+    seek(arc, base, wanted, &ids[..n], 0, seen, vals)
+}
+
+// The smallest new contents of the next class, with these values in slots.
+pub fn renewed(
+    arc: Arc,
+    constants: [u32; 2],
+    c: usize,
+    vals: [u32; 10],
+    r: usize,
+    next: [u8; 5],
+) -> [u32; 5]
+    requires { ⌜ Fits arc × (c ≤ 2) × (r ≤ 5) ⌝ }
+    ensures { λ w. ⌜ w ≡ padded 5 (newContents arc (take c constants) vals r next) ⌝ }
+{
+    let source = arc.source;
+    let written = scan(
+        constants_seen(constants, c),
+        vals,
+        source,
+        arc.sets as usize,
+    ).seen;
+    let marked = held(arc, c, next).seen;
+    let labels = scan(marked, label_slots(next), [2, 3, 4, 5, 6], r).labels;
+    unscan(written, labels, r)
+}
+
+// Whether transition i, counted from 0, goes from one place to the other.
+fn connects(form: &[u32], i: usize, from: u32, to: u32) -> bool
+    requires { ⌜ Readable (now form) × (i < length (automatonOf (now form) .transitions)) ⌝ }
+    ensures { λ r. ⌜ r ≡ eqb (transitionOf (automatonOf (now (form .entry))) (suc i) .from) from && eqb (transitionOf (automatonOf (now (form .entry))) (suc i) .to) to ⌝ }
+{
+    let at = 6 * (28 + 14 * i);
+    if form[at + 1] == from {
+        return form[at + 3] == to;
+    }
+    false
+}
+
+// The smallest move by transition i, counted from 0, from the contents to the next class; transition 0 where there is none.
+pub fn move_by(
+    form: &[u32],
+    i: usize,
+    from: u32,
+    contents: [u32; 5],
+    to: u32,
+    next: [u8; 5],
+) -> Move
+    requires { ⌜ Posed (now form) from contents to next × (i < length (automatonOf (now form) .transitions)) ⌝ }
+    ensures { λ m. ⌜ m ≡ paddedMove (moveBy 15 (automatonOf (now (form .entry))) (stateAt (automatonOf (now (form .entry))) from contents) (classAt (automatonOf (now (form .entry))) to next) (suc i)) ⌝ }
+{
+    let none = Move {
+        arc: 0,
+        params: [0, 0, 0],
+        next: [0, 0, 0, 0, 0],
+    };
+    if connects(form, i, from, to) {
+        let arc = forms::arc_at(form, i);
+        let r = form[1] as usize;
+        let c = form[2] as usize;
+        let constants = [form[7], form[13]];
+        let p = parameters(arc, constants, c, contents, r, next);
+        if p.found {
+            let vals = p.vals;
+            let fresh = renewed(arc, constants, c, vals, r, next);
+            return Move {
+                arc: i as u32 + 1,
+                params: [vals[7], vals[8], vals[9]],
+                next: fresh,
+            };
+        }
+        return none;
+    }
+    none
+}
+
+// The smallest move from the contents to the next class, over all transitions; transition 0 where there is none.
+pub fn smallest_move(form: &[u32], from: u32, contents: [u32; 5], to: u32, next: [u8; 5]) -> Move
+    requires { ⌜ Posed (now form) from contents to next ⌝ }
+    ensures { λ m. ⌜ m ≡ paddedMove (smallest 15 (automatonOf (now (form .entry))) (stateAt (automatonOf (now (form .entry))) from contents) (classAt (automatonOf (now (form .entry))) to next)) ⌝ }
+{
+    let n = form[5] as usize;
+    let mut i = 0;
+    while i < n {
+        let m = move_by(form, i, from, contents, to, next);
+        if 0 < m.arc {
+            return m;
+        }
+        i += 1;
+    }
+    Move {
+        arc: 0,
+        params: [0, 0, 0],
+        next: [0, 0, 0, 0, 0],
+    }
+}
