@@ -1,4 +1,6 @@
--- What the contracts of the printed moves cite.
+-- What the contracts of the smallest moves, and of runs along a path, cite.
 pub mod Noting
-pub mod Seeking
-pub mod Asking
+pub mod Parameters
+pub mod SmallestMove
+pub mod RunLines
+pub mod PathRuns

@@ -1,4 +1,9 @@
-// The smallest move from real contents to the next configuration: the smallest parameters that fit, then the smallest new contents.
+// Runs with real identifiers along a path of configurations: the smallest move from real contents to the next configuration (the smallest parameters that fit,
+// then the smallest new contents), and with it the run along any path, in the replayer's form and as printed lines.
+pub mod along;
+
+pub use along::class_contents;
+pub use along::write_run;
 
 ghost use mathlib.Core.Path.{_≡_};
 ghost use mathlib.Core.Bool.{cond, true, _&&_};
@@ -14,8 +19,8 @@ ghost use Rattle.forms.specs.TableForm.{automatonOf};
 ghost use Rattle.forms.specs.Readable.{Readable};
 ghost use Rattle.forms.specs.Slots.{Fits, padded};
 ghost use Rattle.concretization.specs.Noting.{known, seenOf, Tidy, scanned};
-ghost use Rattle.concretization.specs.Seeking.{worth, tries, suits, foundOf, slotsOf, labelSlots, wantedOf, sought, newContents};
-ghost use Rattle.concretization.specs.Asking.{stateAt, classAt, Posed, moveBy, paddedMove};
+ghost use Rattle.concretization.specs.Parameters.{worth, tries, suits, foundOf, slotsOf, labelSlots, wantedOf, sought, newContents};
+ghost use Rattle.concretization.specs.SmallestMove.{stateAt, classAt, Posed, moveBy, paddedMove};
 use forms::Arc;
 
 // Identifiers in order: those that have a label, or those to choose from.
@@ -41,6 +46,12 @@ pub struct Move {
     pub arc: u32,
     pub params: [u32; 3],
     pub next: [u32; 5],
+}
+
+// Where a run stands: a location and the contents, zeros behind them.
+pub struct Stand {
+    pub place: u32,
+    pub contents: [u32; 5],
 }
 
 // The place of x among the identifiers, or their number.
@@ -396,9 +407,8 @@ fn connects(form: &[u32], i: usize, from: u32, to: u32) -> bool
     requires { ⌜ Readable (now form) × (i < length (automatonOf (now form) .transitions)) ⌝ }
     ensures { λ r. ⌜ r ≡ eqb (transitionOf (automatonOf (now (form .entry))) (suc i) .from) from && eqb (transitionOf (automatonOf (now (form .entry))) (suc i) .to) to ⌝ }
 {
-    let at = 6 * (28 + 14 * i);
-    if form[at + 1] == from {
-        return form[at + 3] == to;
+    if forms::from(form, i) as u32 == from {
+        return forms::to(form, i) as u32 == to;
     }
     false
 }
@@ -422,9 +432,9 @@ pub fn move_by(
     };
     if connects(form, i, from, to) {
         let arc = forms::arc_at(form, i);
-        let r = form[1] as usize;
-        let c = form[2] as usize;
-        let constants = [form[7], form[13]];
+        let r = forms::registers(form);
+        let c = forms::constants(form);
+        let constants = forms::constant_values(form);
         let p = parameters(arc, constants, c, contents, r, next);
         if p.found {
             let vals = p.vals;
@@ -445,7 +455,7 @@ pub fn smallest_move(form: &[u32], from: u32, contents: [u32; 5], to: u32, next:
     requires { ⌜ Posed (now form) from contents to next ⌝ }
     ensures { λ m. ⌜ m ≡ paddedMove (smallest 15 (automatonOf (now (form .entry))) (stateAt (automatonOf (now (form .entry))) from contents) (classAt (automatonOf (now (form .entry))) to next)) ⌝ }
 {
-    let n = form[5] as usize;
+    let n = forms::transitions(form);
     let mut i = 0;
     while i < n {
         let m = move_by(form, i, from, contents, to, next);

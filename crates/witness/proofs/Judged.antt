@@ -19,8 +19,9 @@ use Rattle.moves.proofs.Limits.{limited-roomy}
 use Rattle.replay.specs.Judge.{judgeFlat, flatRun}
 use Rattle.replay.specs.declared.Verdict.the-variants.{Good}
 use Rattle.replay.proofs.Flat.{run-good}
-use Rattle.witness.specs.Printed.{runLines, withRun, withLines}
-use Rattle.witness.proofs.Pasting.{run-length, lines-length}
+use Rattle.concretization.specs.RunLines.{runLines}
+use Rattle.witness.specs.Printed.{withRun, withLines}
+use Rattle.concretization.proofs.Pasting.{run-length, lines-length}
 use Rattle.witness.proofs.Finding.{few-steps}
 
 -- what is said of the run along a walk

@@ -8,10 +8,10 @@ use lib.ListN.{length, getD, drop, set}
 use Rattle.graphs.specs.Lists.{first}
 use Rattle.classes.specs.Classes.{noted}
 use Rattle.concretization.specs.Noting.{known}
-use Rattle.concretization.specs.Seeking.{tries, suits, foundOf}
+use Rattle.concretization.specs.Parameters.{tries, suits, foundOf}
 use Rattle.concretization.proofs.Padding.{tidy-wider}
-use Rattle.concretization.proofs.Scans.{next-tidy, next-known}
-use Rattle.concretization.proofs.Seeks.{triedWith, turn-skip, turn-fails, turn-finds, turn-done, tries-last, tries-first, tries-next}
+use Rattle.concretization.proofs.Scanning.{next-tidy, next-known}
+use Rattle.concretization.proofs.ParameterSearch.{triedWith, turn-skip, turn-fails, turn-finds, turn-done, tries-last, tries-first, tries-next}
 use borrow.Fn.Kinds.{In}
 use borrow.Fn.PlainCycle.{Measures, is, falls, and}
 use Rattle.concretization.proofs.seek.Reads as seek

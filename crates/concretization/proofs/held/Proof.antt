@@ -5,7 +5,7 @@ use mathlib.Core.List.{[], _∷_}
 use native.Mathlib.Omega.{arith}
 use Rattle.graphs.specs.Lists.{upFrom}
 use Rattle.concretization.specs.Noting.{seenOf, scanned}
-use Rattle.concretization.proofs.Scans.{constants-tidy, marks-take}
+use Rattle.concretization.proofs.Scanning.{constants-tidy, marks-take}
 use Rattle.concretization.proofs.held.Statement.{statement}
 use Rattle.concretization.proofs.held.Tie as tie
 

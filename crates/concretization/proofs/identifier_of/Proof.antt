@@ -2,7 +2,7 @@
 -- Assumes nothing.
 use mathlib.Core.Path.{_∙_}
 use native.Mathlib.Omega.{arith}
-use Rattle.concretization.proofs.Scans.{identifier-at, identifier-after}
+use Rattle.concretization.proofs.Scanning.{identifier-at, identifier-after}
 use Rattle.concretization.proofs.identifier_of.Statement.{statement}
 use Rattle.concretization.proofs.identifier_of.Tie as tie
 

@@ -4,9 +4,9 @@ use mathlib.Core.Bool.{true, false}
 use mathlib.Core.Path.{sym, ap, _∙_}
 use native.Mathlib.Omega.{arith}
 use Rattle.concretization.specs.Noting.{known}
-use Rattle.concretization.specs.Seeking.{foundOf}
+use Rattle.concretization.specs.Parameters.{foundOf}
 use Rattle.concretization.proofs.Padding.{tidy-wider}
-use Rattle.concretization.proofs.Seeks.{judge-guard, judge-labels}
+use Rattle.concretization.proofs.ParameterSearch.{judge-guard, judge-labels}
 use Rattle.concretization.proofs.judge.Statement.{statement}
 use Rattle.concretization.proofs.judge.Tie as tie
 

@@ -11,11 +11,11 @@ use Rattle.classes.specs.Classes.{labels, notes}
 use Rattle.forms.specs.Slots.{padded, valuesFrom}
 use Rattle.forms.proofs.Encoding.{padded-at}
 use Rattle.concretization.specs.Noting.{known, seenOf}
-use Rattle.concretization.specs.Seeking.{labelSlots}
+use Rattle.concretization.specs.Parameters.{labelSlots}
 use Rattle.concretization.proofs.Padding.{entries-below}
 use Rattle.concretization.proofs.Turns.{values-length}
-use Rattle.concretization.proofs.Scans.{constants-tidy, constants-known, scanned-tidy, scanned-known, scanned-labels, marks-tidy, marks-known, register-values, registerSlots, labels-positive}
-use Rattle.concretization.proofs.Seeks.{renewed-is}
+use Rattle.concretization.proofs.Scanning.{constants-tidy, constants-known, scanned-tidy, scanned-known, scanned-labels, marks-tidy, marks-known, register-values, registerSlots, labels-positive}
+use Rattle.concretization.proofs.ParameterSearch.{renewed-is}
 use Rattle.concretization.proofs.renewed.Statement.{statement}
 use Rattle.concretization.proofs.renewed.Tie as tie
 

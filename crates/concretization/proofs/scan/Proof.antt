@@ -9,7 +9,7 @@ use Rattle.forms.specs.Slots.{padded, valuesFrom}
 use Rattle.concretization.specs.Noting.{known, seenOf}
 use Rattle.concretization.proofs.Padding.{tidy-wider}
 use Rattle.concretization.proofs.Turns.{values-length}
-use Rattle.concretization.proofs.Scans.{place-small, seen-tidy, seen-more, labels-more, values-step, scanned-is}
+use Rattle.concretization.proofs.Scanning.{place-small, seen-tidy, seen-more, labels-more, values-step, scanned-is}
 use Rattle.concretization.proofs.scan.Statement.{statement}
 use Rattle.concretization.proofs.scan.Tie as tie
 

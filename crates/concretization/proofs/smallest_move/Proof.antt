@@ -1,91 +1,40 @@
--- `concretization::smallest_move` meets its contract.
--- Assumes nothing.
-use Prim.Native.Nat.{_≤_, _<_, _-_, _+_, suc}
-use mathlib.Core.Path.{_≡_, sym, ap, _∙_}
-use lib.ListN.{length, getD}
-use native.Mathlib.Omega.{arith}
-use Rattle.moves.specs.Moves.{smallestFrom, smallest}
-use Rattle.forms.specs.TableForm.{automatonOf}
-use Rattle.forms.specs.Slots.{padded}
-use Rattle.forms.proofs.Forms.{transition-count, form-limits}
-use Rattle.concretization.specs.Asking.{stateAt, classAt, paddedMove}
-use Rattle.concretization.proofs.Laws.{smallest-here, smallest-later, smallest-left, smallest-next, smallest-none}
+use borrow.Author.Needs.{needs}
 use Rattle.concretization.proofs.smallest_move.Statement.{statement}
 use Rattle.concretization.proofs.smallest_move.Tie as tie
+use Rattle.concretization.proofs.smallest_move.Reads as reads
+use Rattle.concretization.proofs.smallest_move.Lts as lts
+use Rattle.concretization.proofs.move_by.Reads as move-by-reads
+use Rattle.forms.proofs.transitions.Reads as transitions-reads
 
 abbrev Inv-loop : tie.InvT-loop
-Inv-loop form from contents to next n i₀ i =
-    (i ≤ n) × (n ≡ length (automatonOf form .transitions))
-    × (smallestFrom 15 (automatonOf form) (stateAt (automatonOf form) from contents) (classAt (automatonOf form) to next) (suc i) (n - i)
-    ≡ smallest 15 (automatonOf form) (stateAt (automatonOf form) from contents) (classAt (automatonOf form) to next))
+Inv-loop form from contents to next n i₀ i = ?
 
 abbrev μ-loop : tie.MeasureT-loop
-μ-loop form from contents to next n i₀ i = n - i
+μ-loop form from contents to next n i₀ i = ?
 
-shared-slice-read-n : tie.Need-shared-slice-read-n Inv-loop μ-loop
-shared-slice-read-n c = let r = c .before .before .pre .readable in omega (arith, r .long)
-
-cast-n : tie.Need-cast-n Inv-loop μ-loop
-cast-n c = let e = c .before .before in omega (arith, transition-count (e .args .form .now), form-limits (e .args .form .now) (e .pre .readable) .transitions)
+transitions-requires : tie.Need-transitions-requires Inv-loop μ-loop
+transitions-requires c κs = search needs
 
 loop-holds : tie.Need-loop-holds Inv-loop μ-loop
-loop-holds c =
-    let a = c .before .before .args in
-    let t = a .form .now in
-    let m = automatonOf t in
-    let n = transition-count t in
-    let z : getD t 5 0 - 0 ≡ length (m .transitions) = omega (arith, n) in
-    (omega arith, sym n, ap (smallestFrom 15 m (stateAt m (a .from) (a .contents)) (classAt m (a .to) (a .next)) 1) z)
+loop-holds c = search needs
 
 move-by-requires : tie.Need-move-by-requires Inv-loop μ-loop
-move-by-requires c κs = let l = c .before .loop in (c .before .before .before .before .pre, omega (arith, l .inv .1, c .loop-test .taken))
+move-by-requires c κs = search needs
 
 returns : tie.Need-returns Inv-loop μ-loop
-returns c =
-    let a = c .before .before .before .before .before .before .before .args in
-    let l = c .before .before .before .before .loop in
-    let m = automatonOf (a .form .now) in
-    let s = stateAt m (a .from) (a .contents) in
-    let d = classAt m (a .to) (a .next) in
-    let n = getD (a .form .now) 5 0 in
-    let low : l .i < n = c .before .before .before .loop-test .taken in
-    smallest-here m s d (l .i) (n - (l .i + 1)) (c .before .before .move-by .result) (c .before .before .move-by .ensures) (c .if1 .taken) ∙ ap paddedMove (smallest-left m s d (l .i) n low ∙ l .inv .2)
+returns c = search needs
 
 add-i : tie.Need-add-i Inv-loop μ-loop
-add-i c =
-    let e = c .before .before .before .before .before .before .before in
-    let l = c .before .before .before .before .loop in
-    let low : l .i < getD (e .args .form .now) 5 0 = c .before .before .before .loop-test .taken in
-    let h : l .i < 64 = omega (arith, transition-count (e .args .form .now), form-limits (e .args .form .now) (e .pre .readable) .transitions) in
-    omega arith
+add-i c = search needs
 
 loop-less : tie.Need-loop-less Inv-loop μ-loop
-loop-less c = omega (arith, c .before .before .before .loop-test .taken)
+loop-less c = search needs
 
 loop-again : tie.Need-loop-again Inv-loop μ-loop
-loop-again c =
-    let a = c .before .before .before .before .before .before .before .args in
-    let l = c .before .before .before .before .loop in
-    let m = automatonOf (a .form .now) in
-    let s = stateAt m (a .from) (a .contents) in
-    let d = classAt m (a .to) (a .next) in
-    let n = getD (a .form .now) 5 0 in
-    let low : l .i < n = c .before .before .before .loop-test .taken in (
-      omega arith,
-      l .inv .1,
-      smallest-next m s d (l .i) n ∙ smallest-later m s d (l .i) (n - (l .i + 1)) (c .before .before .move-by .result) (c .before .before .move-by .ensures) (omega (arith, c .if1 .left))
-          ∙ smallest-left m s d (l .i) n low ∙ l .inv .2,
-    )
+loop-again c = search needs
 
 returns-2 : tie.Need-returns-2 Inv-loop μ-loop
-unfolding paddedMove padded
-returns-2 c =
-    let a = c .before .before .before .before .args in
-    let l = c .before .loop in
-    let m = automatonOf (a .form .now) in
-    let n = getD (a .form .now) 5 0 in
-    let high : n ≤ l .i = c .loop-test .left in
-    ap paddedMove (sym (smallest-none m (stateAt m (a .from) (a .contents)) (classAt m (a .to) (a .next)) (l .i) n high) ∙ l .inv .2)
+returns-2 c = search needs
 
 pub smallest-move-spec : {M : Type 1} → statement M
 smallest-move-spec =
@@ -93,8 +42,7 @@ smallest-move-spec =
     (tie.spec
     Inv-loop
     μ-loop
-    shared-slice-read-n
-    cast-n
+    transitions-requires
     loop-holds
     move-by-requires
     returns

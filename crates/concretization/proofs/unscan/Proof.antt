@@ -8,7 +8,7 @@ use Rattle.classes.specs.Classes.{notes, identifiers}
 use Rattle.forms.specs.Slots.{padded}
 use Rattle.concretization.specs.Noting.{known, seenOf}
 use Rattle.concretization.proofs.Padding.{tidy-wider}
-use Rattle.concretization.proofs.Scans.{unscan-tidy, unscan-seen, unscan-ids}
+use Rattle.concretization.proofs.Scanning.{unscan-tidy, unscan-seen, unscan-ids}
 use Rattle.concretization.proofs.unscan.Statement.{statement}
 use Rattle.concretization.proofs.unscan.Tie as tie
 

@@ -15,7 +15,7 @@ use Rattle.moves.specs.Moves.{pool}
 use Rattle.forms.specs.declared.Arc.{Arc}
 use Rattle.forms.specs.Slots.{padded, holdsAll, valuesFrom}
 use Rattle.concretization.specs.declared.Found.{Found}
-use Rattle.concretization.specs.Seeking.{worth, tries, suits, foundOf, labelSlots, wantedOf, sought, newContents}
+use Rattle.concretization.specs.Parameters.{worth, tries, suits, foundOf, labelSlots, wantedOf, sought, newContents}
 use Rattle.concretization.proofs.Padding.{padded-take}
 
 -- One list of values
