@@ -14,7 +14,7 @@ use Rattle.graphs.proofs.Lists.{upFrom-length}
 use Rattle.classes.specs.Classes.{noted, position}
 use Rattle.classes.proofs.Labels.{noted-old, noted-new}
 use Rattle.moves.specs.Moves.{pool}
-use Rattle.forms.specs.Slots.{padded}
+use Rattle.lists.specs.Arrays.{padded}
 use Rattle.concretization.specs.declared.Seen.{Seen}
 use Rattle.concretization.specs.Noting.{known, seenOf, Tidy}
 

@@ -13,10 +13,11 @@ use Rattle.classes.specs.Classes.{noted, labels, notes, identifiers}
 use Rattle.classes.proofs.Legal.{labels-length}
 use Rattle.moves.specs.Moves.{pool}
 use Rattle.forms.specs.declared.Arc.{Arc}
-use Rattle.forms.specs.Slots.{padded, holdsAll, valuesFrom}
+use Rattle.lists.specs.Arrays.{padded}
+use Rattle.forms.specs.Slots.{holdsAll, valuesFrom}
 use Rattle.concretization.specs.declared.Found.{Found}
 use Rattle.concretization.specs.Parameters.{worth, tries, suits, foundOf, labelSlots, wantedOf, sought, newContents}
-use Rattle.concretization.proofs.Padding.{padded-take}
+use Rattle.lists.proofs.Arrays.{padded-take}
 
 -- One list of values
 

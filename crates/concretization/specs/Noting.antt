@@ -5,7 +5,8 @@ use mathlib.Core.List.{List}
 use mathlib.Core.Path.{_≡_}
 use lib.ListN.{length, take}
 use Rattle.classes.specs.Classes.{labels, notes}
-use Rattle.forms.specs.Slots.{padded, valuesFrom}
+use Rattle.lists.specs.Arrays.{padded}
+use Rattle.forms.specs.Slots.{valuesFrom}
 use Rattle.concretization.specs.declared.Seen.{Seen}
 use Rattle.concretization.specs.declared.Labelled.{Labelled}
 

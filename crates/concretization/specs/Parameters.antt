@@ -10,7 +10,8 @@ use Rattle.graphs.specs.Lists.{upFrom, eqList, select, first}
 use Rattle.classes.specs.Classes.{position, noted, labels, notes, fresh, identifiers}
 use Rattle.moves.specs.Moves.{pool}
 use Rattle.forms.specs.declared.Arc.{Arc}
-use Rattle.forms.specs.Slots.{padded, holdsAll, valuesFrom}
+use Rattle.lists.specs.Arrays.{padded}
+use Rattle.forms.specs.Slots.{holdsAll, valuesFrom}
 use Rattle.concretization.specs.declared.Found.{Found}
 
 -- x is known, or it is the smallest identifier that is not

@@ -12,7 +12,7 @@ ghost use Rattle.automata.specs.Configurations.{classes, numbered, rows};
 ghost use Rattle.moves.specs.Moves.{smallest};
 ghost use Rattle.moves.specs.Runs.{startContents};
 ghost use Rattle.forms.specs.TableForm.{automatonOf};
-ghost use Rattle.forms.specs.Slots.{padded};
+ghost use Rattle.lists.specs.Arrays.{padded};
 ghost use Rattle.forms.specs.ClassLabels.{Lent};
 ghost use Rattle.replay.specs.Judge.{flatMove, flatRun};
 ghost use Rattle.concretization.specs.RunLines.{slotted, momentLine, runLines};

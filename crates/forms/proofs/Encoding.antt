@@ -2,11 +2,12 @@
 -- Assumes nothing.
 use Prim.Native.Nat.{ℕ, zero, suc, _+_, _≤_, _<_}
 use mathlib.Core.Bool.{Bool, true, false, not, cond}
-use mathlib.Core.List.{List, [], _∷_, _++_, map, List·Memᴰ, List·Memᴰ·head, List·Memᴰ·tail, Memᴰ·map, append-nil}
+use mathlib.Core.List.{List, [], _∷_, _++_, map, Memᴰ·map, append-nil}
 use mathlib.Core.Path.{_≡_, refl, sym, ap, _∙_}
 use native.Mathlib.Omega.{arith}
 use lib.Dec.{T, eqb}
-use lib.ListN.{length, getD, set, length-map}
+use lib.ListN.{length, set, length-map}
+use Rattle.lists.proofs.Arrays.{padded-map-more}
 use Rattle.graphs.specs.Lists.{upFrom, allOf, select}
 use Rattle.graphs.proofs.Lists.{allOf-mem, mem-select, mem-upFrom, upFrom-length}
 use Rattle.automata.specs.Automaton.{Condition, Assignment}
@@ -14,32 +15,7 @@ use Rattle.automata.specs.Automaton.Term.{register}
 use Rattle.forms.specs.TableForm.{cell, present, conditionAt, assignmentAt}
 use Rattle.forms.specs.declared.Guard.{Guard}
 use Rattle.forms.specs.declared.Sets.{Sets}
-use Rattle.forms.specs.Slots.{slotOf, flag, padded, guardOf, guardWith, setsOf, setsWith}
-
--- Padded lists
-
-pub padded-at : (n : ℕ) (xs : List ℕ) (i : ℕ) → i < n → getD (padded n xs) i 0 ≡ getD xs i 0
-unfolding padded
-padded-at zero xs i h = absurd (omega arith)
-padded-at (suc n) [] zero h = refl
-padded-at (suc n) [] (suc i) h = padded-at n [] i (omega arith)
-padded-at (suc n) (x ∷ xs) zero h = refl
-padded-at (suc n) (x ∷ xs) (suc i) h = padded-at n xs i (omega arith)
-
--- what holds of 0 and of all entries
-pub padded-below : {A : Type 0} (f : A → ℕ) (n b : ℕ) (xs : List A) → 0 < b → ((x : A) → List·Memᴰ x xs → f x < b) → (i : ℕ) → getD (padded n (map f xs)) i 0 < b
-unfolding padded
-padded-below f zero b xs z h i = z
-padded-below f (suc n) b [] z h zero = z
-padded-below f (suc n) b [] z h (suc i) = padded-below f n b [] z h i
-padded-below f (suc n) b (x ∷ xs) z h zero = h x (List·Memᴰ·head refl)
-padded-below f (suc n) b (x ∷ xs) z h (suc i) = padded-below f n b xs z (λ y m. h y (List·Memᴰ·tail m)) i
-
-padded-more : {A : Type 0} (f : A → ℕ) (n : ℕ) (xs : List A) (x : A) → length xs < n → set (padded n (map f xs)) (length xs) (f x) ≡ padded n (map f (xs ++ (x ∷ [])))
-unfolding padded
-padded-more f zero xs x h = absurd (omega arith)
-padded-more f (suc n) [] x h = refl
-padded-more f (suc n) (y ∷ xs) x h = ap (λ l. f y ∷ l) (padded-more f n xs x (omega arith))
+use Rattle.forms.specs.Slots.{slotOf, flag, guardOf, guardWith, setsOf, setsWith}
 
 length-more : {A : Type 0} (xs : List A) (x : A) → length xs + 1 ≡ length (xs ++ (x ∷ []))
 length-more [] x = refl
@@ -117,8 +93,8 @@ guard-more t row i h = go (eqb (cell t (row + i) 0) 0) refl
     go : (b : Bool) → eqb (cell t (row + i) 0) 0 ≡ b → cond b (guardOf gs) more ≡ guardOf (map (conditionAt t) (present t row (i + 1)))
     go true e = ap guardOf (sym (lines-more (conditionAt t) t row i true e))
     go false e =
-        guard-path more (guardOf (gs ++ (g ∷ []))) (length-more gs g) (padded-more (λ d. slotOf (d .left)) 8 gs g few)
-        (padded-more (λ d. flag (d .equal)) 8 gs g few) (padded-more (λ d. slotOf (d .right)) 8 gs g few)
+        guard-path more (guardOf (gs ++ (g ∷ []))) (length-more gs g) (padded-map-more (λ d. slotOf (d .left)) 8 gs g few)
+        (padded-map-more (λ d. flag (d .equal)) 8 gs g few) (padded-map-more (λ d. slotOf (d .right)) 8 gs g few)
         ∙ ap guardOf (sym (lines-more (conditionAt t) t row i false e))
 
 -- Assignments
@@ -149,6 +125,6 @@ sets-more t row i h = go (eqb (cell t (row + i) 0) 0) refl
     go : (b : Bool) → eqb (cell t (row + i) 0) 0 ≡ b → cond b (setsOf ss) more ≡ setsOf (map (assignmentAt t) (present t row (i + 1)))
     go true e = ap setsOf (sym (lines-more (assignmentAt t) t row i true e))
     go false e =
-        sets-path more (setsOf (ss ++ (s ∷ []))) (length-more ss s) (padded-more (λ d. slotOf (d .source)) 5 ss s few)
-        (padded-more (λ d. slotOf (register (d .register))) 5 ss s few)
+        sets-path more (setsOf (ss ++ (s ∷ []))) (length-more ss s) (padded-map-more (λ d. slotOf (d .source)) 5 ss s few)
+        (padded-map-more (λ d. slotOf (register (d .register))) 5 ss s few)
         ∙ ap setsOf (sym (lines-more (assignmentAt t) t row i false e))

@@ -23,7 +23,8 @@ use Rattle.forms.specs.declared.Sets.{Sets}
 use Rattle.forms.specs.declared.Arc.{Arc}
 use Rattle.forms.specs.Readable.{Readable}
 use Rattle.forms.specs.Slots.{slotOf, flag, guardOf, guardWith, setsOf, setsWith, arcOf, FitsGuard, Fits, ConditionFits, AssignmentFits, conditionsFrom, assignmentsFrom}
-use Rattle.forms.proofs.Encoding.{padded-below, lines-le}
+use Rattle.lists.proofs.Arrays.{padded-below}
+use Rattle.forms.proofs.Encoding.{lines-le}
 
 -- Terms in a smaller range
 

@@ -7,6 +7,7 @@ use mathlib.Core.List.{List, [], _∷_, map}
 use mathlib.Core.Path.{_≡_}
 use lib.Dec.{T, eqb}
 use lib.ListN.{length, getD, set}
+use Rattle.lists.specs.Arrays.{padded}
 use Rattle.graphs.specs.Lists.{item}
 use Rattle.automata.specs.Automaton.{Term, Condition, Assignment, Transition, Automaton, arity}
 use Rattle.automata.specs.Automaton.Term.{register, parameter, constant}
@@ -30,12 +31,6 @@ pub record Joint (cs v ps vals : List ℕ) : Type 0 where
   pub constants : (i : ℕ) → 1 ≤ i → i ≤ length cs → getD vals (pred i) 0 ≡ item cs i
   pub registers : (i : ℕ) → 1 ≤ i → i ≤ length v → getD vals (i + 1) 0 ≡ item v i
   pub parameters : (i : ℕ) → 1 ≤ i → i ≤ length ps → getD vals (i + 6) 0 ≡ item ps i
-
--- the first n entries, with zeros where there are fewer
-unfoldable pub padded : ℕ → List ℕ → List ℕ
-padded zero xs = []
-padded (suc n) [] = 0 ∷ padded n []
-padded (suc n) (x ∷ xs) = x ∷ padded n xs
 
 -- Conditions
 

@@ -22,7 +22,7 @@ use Rattle.reader.specs.Table.{readTarget}
 use Rattle.reader.specs.Table.Outcome.{table}
 use Rattle.reader.proofs.WellFormed.{target-fits}
 use Rattle.forms.specs.Readable.{Readable}
-use Rattle.forms.specs.Slots.{padded}
+use Rattle.lists.specs.Arrays.{padded}
 use Rattle.forms.proofs.Forms.{Limits, form-limits}
 use Rattle.opening.specs.Opening.{openTable}
 use Rattle.opening.proofs.Opened.{opened-readable}

@@ -15,7 +15,7 @@ use Rattle.graphs.proofs.Lists.{and-elim}
 use Rattle.automata.specs.Automaton.{Automaton, meets}
 use Rattle.automata.specs.Runs.{State, Move, transitionOf, isStep, after, permitted, initial, follows, isRun}
 use Rattle.automata.specs.WellFormed.{limited}
-use Rattle.forms.specs.Slots.{padded}
+use Rattle.lists.specs.Arrays.{padded}
 use Rattle.forms.proofs.Forms.{Limits, limits}
 use Rattle.replay.specs.declared.Step.{Step}
 use Rattle.replay.specs.declared.Verdict.the-variants.{Good}

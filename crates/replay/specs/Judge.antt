@@ -10,7 +10,7 @@ use lib.ListN.{length, getD, take, drop}
 use Rattle.graphs.specs.Lists.{allOf}
 use Rattle.automata.specs.Automaton.{Automaton, arity}
 use Rattle.automata.specs.Runs.{State, Move, transitionOf, isStep, after, permitted, initial, isRun}
-use Rattle.forms.specs.Slots.{padded}
+use Rattle.lists.specs.Arrays.{padded}
 use Rattle.replay.specs.declared.Step.{Step}
 use Rattle.replay.specs.declared.Verdict.{Verdict}
 use Rattle.replay.specs.declared.Verdict.the-variants.{Good, Bad}

@@ -13,7 +13,7 @@ use Rattle.automata.specs.Configurations.{rows, starts}
 use Rattle.automata.specs.Answers.{nearestTo}
 use Rattle.automata.specs.Examples.{sample, delivered}
 use Rattle.moves.specs.Runs.{walkContents, walkMoves}
-use Rattle.forms.specs.Slots.{padded}
+use Rattle.lists.specs.Arrays.{padded}
 use Rattle.reach.specs.Buffers.{reachedWords}
 use Rattle.reach.specs.Reaching.{found}
 use Rattle.reach.proofs.Queue.{counted}

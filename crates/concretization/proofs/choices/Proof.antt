@@ -9,7 +9,7 @@ use native.Mathlib.Omega.{arith}
 use borrow.Author.Needs.{needs}
 use Rattle.graphs.specs.Lists.{upFrom}
 use Rattle.moves.specs.Moves.{pool}
-use Rattle.forms.specs.Slots.{padded}
+use Rattle.lists.specs.Arrays.{padded}
 use Rattle.concretization.specs.Noting.{seenOf, known, Tidy}
 use Rattle.concretization.proofs.Padding.{take-one, take-two, tidy-seenOf, known-seenOf, pool-more, pool-length}
 use Rattle.concretization.proofs.choices.Statement.{statement}

@@ -5,7 +5,7 @@ use mathlib.Core.List.{[], _∷_, _++_}
 use lib.ListN.{take, getD}
 use native.Mathlib.Omega.{arith}
 use borrow.Author.Needs.{needs}
-use Rattle.forms.specs.Slots.{padded}
+use Rattle.lists.specs.Arrays.{padded}
 use Rattle.concretization.specs.Noting.{seenOf, known, Tidy}
 use Rattle.concretization.proofs.Padding.{take-one, take-two, tidy-seenOf, known-seenOf}
 use Rattle.concretization.proofs.constants_seen.Statement.{statement}

@@ -7,10 +7,12 @@ use native.Mathlib.Omega.{arith}
 use Rattle.graphs.specs.Lists.{upFrom}
 use Rattle.classes.specs.Classes.{labels, notes}
 use Rattle.moves.specs.Moves.{pool}
-use Rattle.forms.specs.Slots.{padded, valuesFrom}
+use Rattle.lists.specs.Arrays.{padded}
+use Rattle.forms.specs.Slots.{valuesFrom}
 use Rattle.concretization.specs.Noting.{known, seenOf}
 use Rattle.concretization.specs.Parameters.{slotsOf, labelSlots}
-use Rattle.concretization.proofs.Padding.{padded-length, pool-length, known-seenOf, entries-below}
+use Rattle.lists.proofs.Arrays.{padded-length}
+use Rattle.concretization.proofs.Padding.{pool-length, known-seenOf, entries-below}
 use Rattle.concretization.proofs.Scanning.{take-le, constants-tidy, constants-known, scanned-tidy, scanned-known, scanned-labels, marks-tidy, marks-known, register-values, registerSlots}
 use Rattle.concretization.proofs.ParameterSearch.{sought-is}
 use Rattle.concretization.proofs.parameters.Statement.{statement}

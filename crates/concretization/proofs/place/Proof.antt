@@ -6,7 +6,8 @@ use mathlib.Core.Path.{ap}
 use lib.ListN.{length}
 use borrow.Author.Needs.{needs}
 use Rattle.concretization.specs.Noting.{known}
-use Rattle.concretization.proofs.Padding.{ids-are, padded-length}
+use Rattle.lists.proofs.Arrays.{padded-length}
+use Rattle.concretization.proofs.Padding.{ids-are}
 use Rattle.concretization.proofs.Turns.{Left, search-found, search-passed, search-ended}
 use Rattle.concretization.proofs.place.Statement.{statement}
 use Rattle.concretization.proofs.place.Tie as tie

@@ -8,8 +8,9 @@ use lib.Seq.{length-take-le}
 use native.Mathlib.Omega.{arith}
 use Rattle.graphs.specs.Lists.{upFrom}
 use Rattle.classes.specs.Classes.{labels, notes}
-use Rattle.forms.specs.Slots.{padded, valuesFrom}
-use Rattle.forms.proofs.Encoding.{padded-at}
+use Rattle.lists.specs.Arrays.{padded}
+use Rattle.forms.specs.Slots.{valuesFrom}
+use Rattle.lists.proofs.Arrays.{padded-at}
 use Rattle.concretization.specs.Noting.{known, seenOf}
 use Rattle.concretization.specs.Parameters.{labelSlots}
 use Rattle.concretization.proofs.Padding.{entries-below}

@@ -5,7 +5,8 @@ use mathlib.Core.Path.{_≡_, refl, ap, _∙_}
 use lib.ListN.{length, getD}
 use native.Mathlib.Omega.{arith}
 use Rattle.classes.specs.Classes.{labels, notes}
-use Rattle.forms.specs.Slots.{padded, valuesFrom}
+use Rattle.lists.specs.Arrays.{padded}
+use Rattle.forms.specs.Slots.{valuesFrom}
 use Rattle.concretization.specs.Noting.{known, seenOf}
 use Rattle.concretization.proofs.Padding.{tidy-wider}
 use Rattle.concretization.proofs.Turns.{values-length}

@@ -5,7 +5,7 @@ use mathlib.Core.Path.{_≡_, refl, ap, _∙_}
 use lib.ListN.{length, take}
 use native.Mathlib.Omega.{arith}
 use Rattle.classes.specs.Classes.{notes, identifiers}
-use Rattle.forms.specs.Slots.{padded}
+use Rattle.lists.specs.Arrays.{padded}
 use Rattle.concretization.specs.Noting.{known, seenOf}
 use Rattle.concretization.proofs.Padding.{tidy-wider}
 use Rattle.concretization.proofs.Scanning.{unscan-tidy, unscan-seen, unscan-ids}

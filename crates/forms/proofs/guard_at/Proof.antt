@@ -5,7 +5,8 @@ use mathlib.Core.List.{map}
 use mathlib.Core.Path.{_≡_, refl, ap, _∙_}
 use native.Mathlib.Omega.{arith}
 use Rattle.forms.specs.TableForm.{present, conditionAt}
-use Rattle.forms.specs.Slots.{padded, guardOf, guardWith}
+use Rattle.lists.specs.Arrays.{padded}
+use Rattle.forms.specs.Slots.{guardOf, guardWith}
 use Rattle.forms.proofs.Encoding.{lines-le, line-passes, guard-more}
 use Rattle.automata.specs.WellFormed.{fitsCondition}
 use borrow.Author.Needs.{needs}

@@ -5,7 +5,8 @@ use mathlib.Core.List.{map}
 use mathlib.Core.Path.{_≡_, refl, ap, _∙_}
 use native.Mathlib.Omega.{arith}
 use Rattle.forms.specs.TableForm.{present, assignmentAt}
-use Rattle.forms.specs.Slots.{padded, setsOf, setsWith}
+use Rattle.lists.specs.Arrays.{padded}
+use Rattle.forms.specs.Slots.{setsOf, setsWith}
 use Rattle.forms.proofs.Encoding.{lines-le, line-passes, sets-more}
 use Rattle.automata.specs.WellFormed.{fitsAssignment}
 use borrow.Author.Needs.{needs}

@@ -1,0 +1,3 @@
+-- What contracts say of arrays, of buffers and of searches.
+pub mod Arrays
+pub mod Searches
