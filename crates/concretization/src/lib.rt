@@ -18,23 +18,13 @@ ghost use Rattle.automata.specs.Runs.{transitionOf};
 ghost use Rattle.forms.specs.TableForm.{automatonOf};
 ghost use Rattle.forms.specs.Readable.{Readable};
 ghost use Rattle.lists.specs.Arrays.{padded};
-ghost use Rattle.forms.specs.Slots.{Fits};
-ghost use Rattle.concretization.specs.Noting.{known, seenOf, Tidy, scanned};
+ghost use Rattle.forms.specs.Slots.{Fits, valuesFrom};
+ghost use Rattle.labelling.specs.Noted.{known, seenOf, Tidy, labelled};
 ghost use Rattle.concretization.specs.Parameters.{worth, tries, suits, foundOf, slotsOf, labelSlots, wantedOf, sought, newContents};
 ghost use Rattle.concretization.specs.SmallestMove.{stateAt, classAt, Posed, moveBy, paddedMove};
 use forms::Arc;
-
-// Identifiers in order: those that have a label, or those to choose from.
-pub struct Seen {
-    pub count: usize,
-    pub ids: [u32; 17],
-}
-
-// The labels of some values, and the identifiers that have a label afterwards.
-pub struct Labelled {
-    pub labels: [u8; 5],
-    pub seen: Seen,
-}
+use labelling::Labelled;
+use labelling::Seen;
 
 // The values in slots with parameters that were found.
 pub struct Found {
@@ -55,135 +45,27 @@ pub struct Stand {
     pub contents: [u32; 5],
 }
 
-// The place of x among the identifiers, or their number.
-fn place(s: Seen, x: u32) -> usize
-    requires { ⌜ Tidy 17 s ⌝ }
-    ensures { λ r. ⌜ r ≡ position (known s) x ⌝ }
+// The values in the first n slots; zeros after them.
+fn values_at(vals: [u32; 10], slots: [u8; 5], n: usize) -> [u32; 5]
+    requires { ⌜ (n ≤ 5) × ((i : ℕ) → getD slots i 0 < 10) ⌝ }
+    ensures { λ r. ⌜ r ≡ padded 5 (valuesFrom vals slots 0 n) ⌝ }
 {
-    let n = s.count;
-    let ids = s.ids;
+    let mut values = [0u32; 5];
     let mut i = 0;
     while i < n {
-        if ids[i] == x {
-            return i;
-        }
+        let j = slots[i] as usize;
+        values[i] = vals[j];
         i += 1;
     }
-    i
-}
-
-// One identifier more.
-fn push(s: Seen, x: u32) -> Seen
-    requires { ⌜ Tidy 16 s ⌝ }
-    ensures { λ r. ⌜ r ≡ seenOf (known s ++ (x ∷ [])) ⌝ }
-{
-    let n = s.count;
-    let mut ids = s.ids;
-    ids[n] = x;
-    Seen {
-        count: n + 1,
-        ids: ids,
-    }
-}
-
-// x has a label from now on.
-fn note(s: Seen, x: u32) -> Seen
-    requires { ⌜ Tidy 16 s ⌝ }
-    ensures { λ r. ⌜ r ≡ seenOf (noted (known s) x) ⌝ }
-{
-    if place(s, x) < s.count {
-        return s;
-    }
-    push(s, x)
-}
-
-// The smallest identifier that is none of these.
-fn smallest_other(s: Seen) -> u32
-    requires { ⌜ Tidy 17 s ⌝ }
-    ensures { λ r. ⌜ r ≡ fresh (known s) ⌝ }
-{
-    let n = s.count;
-    let mut left = n;
-    let mut i: u32 = 0;
-    while 0 < left {
-        if place(s, i) == n {
-            return i;
-        }
-        i += 1;
-        left -= 1;
-    }
-    i
-}
-
-// The identifier of a label.
-fn identifier_of(s: Seen, label: u8) -> u32
-    requires { ⌜ Tidy 17 s × (1 ≤ label) ⌝ }
-    ensures { λ r. ⌜ r ≡ identifier (known s) label ⌝ }
-{
-    let n = s.count;
-    let ids = s.ids;
-    let x = label as usize;
-    if n < x {
-        return smallest_other(s);
-    }
-    ids[x - 1]
+    values
 }
 
 // The labels of the values in the first n slots, given the identifiers that have a label already.
 fn scan(s: Seen, vals: [u32; 10], slots: [u8; 5], n: usize) -> Labelled
     requires { ⌜ Tidy 12 s × (n ≤ 5) × ((i : ℕ) → getD slots i 0 < 10) ⌝ }
-    ensures { λ r. ⌜ r ≡ scanned s vals slots n ⌝ }
+    ensures { λ r. ⌜ r ≡ labelled s (valuesFrom vals slots 0 n) ⌝ }
 {
-    let mut seen = s;
-    let mut labels = [0u8; 5];
-    let mut i = 0;
-    while i < n {
-        let j = slots[i] as usize;
-        let x = vals[j];
-        labels[i] = (place(seen, x) + 1) as u8;
-        seen = note(seen, x);
-        i += 1;
-    }
-    Labelled {
-        labels: labels,
-        seen: seen,
-    }
-}
-
-// The smallest identifiers that have these n labels, given the identifiers that have a label already.
-fn unscan(s: Seen, labels: [u8; 5], n: usize) -> [u32; 5]
-    requires { ⌜ Tidy 12 s × (n ≤ 5) × ((i : ℕ) → i < n → 1 ≤ getD labels i 0) ⌝ }
-    ensures { λ r. ⌜ r ≡ padded 5 (identifiers (known s) (take n labels)) ⌝ }
-{
-    let mut seen = s;
-    let mut ids = [0u32; 5];
-    let mut i = 0;
-    while i < n {
-        let d = identifier_of(seen, labels[i]);
-        ids[i] = d;
-        seen = note(seen, d);
-        i += 1;
-    }
-    ids
-}
-
-// The first c of two constants.
-fn constants_seen(constants: [u32; 2], c: usize) -> Seen
-    requires { ⌜ c ≤ 2 ⌝ }
-    ensures { λ r. ⌜ r ≡ seenOf (take c constants) ⌝ }
-{
-    let none = Seen {
-        count: 0,
-        ids: [0, 0, 0, 0, 0, 0, 0, 0, 0, 0, 0, 0, 0, 0, 0, 0, 0],
-    };
-    if c == 0 {
-        return none;
-    }
-    let one = push(none, constants[0]);
-    if c == 1 {
-        return one;
-    }
-    push(one, constants[1])
+    labelling::labels_of(s, values_at(vals, slots, n), n)
 }
 
 // One identifier more, if it is larger than 14.
@@ -192,7 +74,7 @@ fn push_large(s: Seen, x: u32) -> Seen
     ensures { λ r. ⌜ r ≡ seenOf (cond (leb 15 x) (known s ++ (x ∷ [])) (known s)) ⌝ }
 {
     if 15 <= x {
-        return push(s, x);
+        return labelling::push(s, x);
     }
     s
 }
@@ -221,7 +103,7 @@ fn worth_trying(s: Seen, f: u32, x: u32) -> bool
     requires { ⌜ Tidy 17 s × (f ≡ fresh (known s)) ⌝ }
     ensures { λ r. ⌜ r ≡ worth (known s) x ⌝ }
 {
-    if place(s, x) < s.count {
+    if labelling::place(s, x) < s.count {
         return true;
     }
     x == f
@@ -283,14 +165,14 @@ fn seek(
     if depth == arc.params as usize {
         return judge(arc, base, wanted, vals);
     }
-    let f = smallest_other(seen);
+    let f = labelling::smallest_other(seen);
     let mut i = 0;
     while i < pool.len() {
         let x = pool[i];
         if worth_trying(seen, f, x) {
             let mut w = vals;
             w[7 + depth] = x;
-            let r = seek(arc, base, wanted, pool, depth + 1, note(seen, x), w);
+            let r = seek(arc, base, wanted, pool, depth + 1, labelling::note(seen, x), w);
             if r.found {
                 return r;
             }
@@ -301,12 +183,6 @@ fn seek(
         found: false,
         vals: [0, 0, 0, 0, 0, 0, 0, 0, 0, 0],
     }
-}
-
-fn wide(x: u8) -> u32
-    ensures { λ r. ⌜ r ≡ x ⌝ }
-{
-    x as u32
 }
 
 // Constants and contents in their slots.
@@ -331,26 +207,17 @@ fn slots(constants: [u32; 2], contents: [u32; 5]) -> [u32; 10]
 fn label_slots(labels: [u8; 5]) -> [u32; 10]
     ensures { λ r. ⌜ r ≡ labelSlots labels ⌝ }
 {
-    slots(
-        [1, 2],
-        [
-            wide(labels[0]),
-            wide(labels[1]),
-            wide(labels[2]),
-            wide(labels[3]),
-            wide(labels[4]),
-        ],
-    )
+    slots([1, 2], labelling::wide_labels(labels))
 }
 
 // What a class holds in the registers that the transition assigns: its labels, and those noted then.
 fn held(arc: Arc, c: usize, next: [u8; 5]) -> Labelled
     requires { ⌜ Fits arc × (c ≤ 2) ⌝ }
-    ensures { λ r. ⌜ r ≡ scanned (seenOf (upFrom 1 c)) (labelSlots next) (arc .target) (arc .sets) ⌝ }
+    ensures { λ r. ⌜ r ≡ labelled (seenOf (upFrom 1 c)) (valuesFrom (labelSlots next) (arc .target) 0 (arc .sets)) ⌝ }
 {
     let target = arc.target;
     scan(
-        constants_seen([1, 2], c),
+        labelling::constants_seen([1, 2], c),
         label_slots(next),
         target,
         arc.sets as usize,
@@ -369,10 +236,10 @@ pub fn parameters(
     requires { ⌜ Fits arc × (c ≤ 2) × (r ≤ 5) ⌝ }
     ensures { λ f. ⌜ f ≡ foundOf (sought arc (take c constants) (take r contents) (slotsOf constants contents) next) ⌝ }
 {
-    let base = constants_seen(constants, c);
+    let base = labelling::constants_seen(constants, c);
     let vals = slots(constants, contents);
     let wanted = held(arc, c, next).labels;
-    let seen = scan(base, vals, [2, 3, 4, 5, 6], r).seen;
+    let seen = labelling::labels_of(base, contents, r).seen;
     let pool = choices(constants, c);
     let n = pool.count;
     let ids = pool.ids;
@@ -393,14 +260,14 @@ pub fn renewed(
 {
     let source = arc.source;
     let written = scan(
-        constants_seen(constants, c),
+        labelling::constants_seen(constants, c),
         vals,
         source,
         arc.sets as usize,
     ).seen;
     let marked = held(arc, c, next).seen;
-    let labels = scan(marked, label_slots(next), [2, 3, 4, 5, 6], r).labels;
-    unscan(written, labels, r)
+    let labels = labelling::labels_of(marked, labelling::wide_labels(next), r).labels;
+    labelling::identifiers_of(written, labels, r)
 }
 
 // Whether transition i, counted from 0, goes from one place to the other.

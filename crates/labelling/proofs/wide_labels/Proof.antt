@@ -1,8 +1,8 @@
--- `matrices::identifiers_of` meets its contract: five numbers, one by one.
+-- `labelling::wide_labels` meets its contract: five numbers, one by one.
 use borrow.Author.Needs.{needs}
-use Rattle.catalogue.proofs.MatrixRows.{five-entries}
-use Rattle.catalogue.proofs.matrices.identifiers_of.Statement.{statement}
-use Rattle.catalogue.proofs.matrices.identifiers_of.Tie as tie
+use Rattle.labelling.proofs.Noted.{five-numbers}
+use Rattle.labelling.proofs.wide_labels.Statement.{statement}
+use Rattle.labelling.proofs.wide_labels.Tie as tie
 
 array-read-t5 : tie.Need-array-read-t5
 array-read-t5 c = search needs
@@ -35,10 +35,10 @@ cast-t22 : tie.Need-cast-t22
 cast-t22 c = search needs
 
 returns : tie.Need-returns
-returns c = five-entries (c .args .t1) (search needs)
+returns c = five-numbers (c .args .t1) (search needs)
 
-pub identifiers-of-spec : {M : Type 1} → statement M
-identifiers-of-spec =
+pub wide-labels-spec : {M : Type 1} → statement M
+wide-labels-spec =
     tie.close
     (tie.spec
     array-read-t5

@@ -1,4 +1,4 @@
--- `concretization::constants_seen` meets its contract.
+-- `labelling::constants_seen` meets its contract.
 -- Assumes nothing.
 use mathlib.Core.Path.{sym, ap, _∙_, subst⁻¹}
 use mathlib.Core.List.{[], _∷_, _++_}
@@ -6,10 +6,10 @@ use lib.ListN.{take, getD}
 use native.Mathlib.Omega.{arith}
 use borrow.Author.Needs.{needs}
 use Rattle.lists.specs.Arrays.{padded}
-use Rattle.concretization.specs.Noting.{seenOf, known, Tidy}
-use Rattle.concretization.proofs.Padding.{take-one, take-two, tidy-seenOf, known-seenOf}
-use Rattle.concretization.proofs.constants_seen.Statement.{statement}
-use Rattle.concretization.proofs.constants_seen.Tie as tie
+use Rattle.labelling.specs.Noted.{seenOf, known, Tidy}
+use Rattle.labelling.proofs.Noted.{take-one, take-two, tidy-seenOf, known-seenOf}
+use Rattle.labelling.proofs.constants_seen.Statement.{statement}
+use Rattle.labelling.proofs.constants_seen.Tie as tie
 
 returns : tie.Need-returns
 unfolding padded

@@ -1,10 +1,10 @@
--- `concretization::identifier_of` meets its contract.
+-- `labelling::identifier_of` meets its contract.
 -- Assumes nothing.
 use mathlib.Core.Path.{_∙_}
 use native.Mathlib.Omega.{arith}
-use Rattle.concretization.proofs.Scanning.{identifier-at, identifier-after}
-use Rattle.concretization.proofs.identifier_of.Statement.{statement}
-use Rattle.concretization.proofs.identifier_of.Tie as tie
+use Rattle.labelling.proofs.NotedTurns.{identifier-at, identifier-after}
+use Rattle.labelling.proofs.identifier_of.Statement.{statement}
+use Rattle.labelling.proofs.identifier_of.Tie as tie
 
 smallest-other-requires : tie.Need-smallest-other-requires
 smallest-other-requires c κs = c .before .before .pre .0

@@ -1,9 +1,9 @@
--- `concretization::push` meets its contract.
+-- `labelling::push` meets its contract.
 -- Assumes nothing.
 use native.Mathlib.Omega.{arith}
-use Rattle.concretization.proofs.Padding.{push-is}
-use Rattle.concretization.proofs.push.Statement.{statement}
-use Rattle.concretization.proofs.push.Tie as tie
+use Rattle.labelling.proofs.Noted.{push-is}
+use Rattle.labelling.proofs.push.Statement.{statement}
+use Rattle.labelling.proofs.push.Tie as tie
 
 mul-ids : tie.Need-mul-ids
 mul-ids c = let t = c .before .pre in omega (arith, t .few)
