@@ -8,6 +8,7 @@ use lib.ListN.{length, getD, take, set, replicate, length-append}
 use lib.Seq.{take-suc}
 use Rattle.lists.specs.Arrays.{padded}
 use Rattle.lists.proofs.Arrays.{padded-length, padded-zeros, padded-take, padded-more}
+use Rattle.graphs.specs.Lists.{upFrom}
 use Rattle.classes.specs.Classes.{noted, notes, labels, position}
 use Rattle.classes.proofs.Labels.{noted-old, noted-new, position-le}
 use Rattle.classes.proofs.Legal.{notes-le, noted-length}
@@ -114,6 +115,13 @@ pub take-le : (c : ℕ) (xs : List ℕ) → length (take c xs) ≤ c
 take-le zero xs = omega arith
 take-le (suc c) [] = omega arith
 take-le (suc c) (x ∷ xs) = omega (arith, take-le c xs)
+
+-- the labels of at most two constants
+pub marks-take : (c : ℕ) → c ≤ 2 → take c (1 ∷ 2 ∷ []) ≡ upFrom 1 c
+marks-take zero h = refl
+marks-take (suc zero) h = refl
+marks-take (suc (suc zero)) h = refl
+marks-take (suc (suc (suc c))) h = absurd (omega arith)
 
 module _ (c : ℕ) (xs : List ℕ) (u : c ≤ 2) {s : Seen} (e : s ≡ seenOf (take c xs)) where
   pub constants-tidy : (n : ℕ) → c ≤ n → Tidy n s

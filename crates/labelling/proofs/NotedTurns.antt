@@ -3,20 +3,22 @@
 use Prim.Native.Nat.{ℕ, zero, suc, _+_, _-_, _≤_, _<_, pred}
 use mathlib.Core.Bool.{Bool, true, false, cond, not}
 use mathlib.Core.List.{List, [], _∷_, _++_}
+use mathlib.Core.Logic.{_≢_}
 use mathlib.Core.Path.{_≡_, refl, sym, ap, _∙_}
 use native.Mathlib.Omega.{arith}
 use native.Mathlib.Numerals.{add-one}
+use borrow.Author.Tests.{eq-eqb, ne-eqb}
 use lib.Dec.{eqb, ltb}
-use lib.ListN.{length, getD, take, drop, set}
+use lib.ListN.{length, getD, take, drop, set, drop-of-length-le}
 use lib.Seq.{drop-cons, take-suc, getD-take, length-take-le}
 use Rattle.lists.specs.Arrays.{padded}
 use Rattle.lists.specs.Searches.{firstFrom}
 use Rattle.lists.proofs.Arrays.{padded-more}
+use Rattle.graphs.specs.Lists.{eqList}
 use Rattle.classes.specs.Classes.{position, noted, labels, notes, freshFrom, fresh, identifier, identifiers}
 use Rattle.classes.proofs.Legal.{notes-le, labels-append, labels-length}
 use Rattle.classes.proofs.Identifiers.{identifier-old, identifier-new, identifiers-length}
 use Rattle.labelling.specs.declared.Seen.{Seen}
-use Rattle.labelling.specs.declared.Labelled.{Labelled}
 use Rattle.labelling.specs.Noted.{known, seenOf, Tidy, labelled}
 use Rattle.labelling.proofs.Noted.{known-length, made-tidy, made-known}
 
@@ -63,6 +65,21 @@ module _ (n : ℕ) (s : Seen) (t : Tidy n s) (x : ℕ) where
 
   pub identifier-after : s .count < x → fresh (known s) ≡ identifier (known s) x
   identifier-after h = sym (identifier-new (known s) x (omega (arith, known-length n s t)))
+
+-- The comparison of two lists, entry by entry
+
+abbrev pub Same : List ℕ → List ℕ → ℕ → Type 0
+Same k l i = eqList k l ≡ eqList (drop i k) (drop i l)
+
+module _ (k l : List ℕ) (i : ℕ) (e : length k ≡ length l) (q : Same k l i) where
+  pub same-passed : i < length l → getD k i 0 ≡ getD l i 0 → Same k l (i + 1)
+  same-passed h f = q ∙ rw (add-one i, drop-cons k i 0 (omega arith), drop-cons l i 0 h, eq-eqb (getD k i 0) (getD l i 0) f)
+
+  pub same-failed : i < length l → getD k i 0 ≢ getD l i 0 → eqList k l ≡ false
+  same-failed h f = q ∙ rw (drop-cons k i 0 (omega arith), drop-cons l i 0 h, ne-eqb (getD k i 0) (getD l i 0) f)
+
+  pub same-ended : length l ≤ i → eqList k l ≡ true
+  same-ended h = q ∙ rw (drop-of-length-le k {i = i} (omega arith), drop-of-length-le l {i = i} h)
 
 -- One value more
 

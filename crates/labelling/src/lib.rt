@@ -4,6 +4,7 @@ ghost use mathlib.Core.Path.{_≡_};
 ghost use mathlib.Core.List.{[], _∷_, _++_};
 ghost use Prim.Native.Nat.{ℕ, _<_, _≤_};
 ghost use lib.ListN.{length, getD, take};
+ghost use Rattle.graphs.specs.Lists.{eqList};
 ghost use Rattle.classes.specs.Classes.{position, noted, fresh, identifier, identifiers};
 ghost use Rattle.lists.specs.Arrays.{padded};
 ghost use Rattle.labelling.specs.Noted.{known, seenOf, Tidy, labelled};
@@ -166,4 +167,19 @@ pub fn wide_labels(labels: [u8; 5]) -> [u32; 5]
         labels[3] as u32,
         labels[4] as u32,
     ]
+}
+
+// Are the first entries of `a` those of `b`?
+pub fn same_entries(a: &[u8], b: &[u8]) -> bool
+    requires { ⌜ length (now b) ≤ length (now a) ⌝ }
+    ensures { λ q. ⌜ q ≡ eqList (take (length (now (b .entry))) (now (a .entry))) (now (b .entry)) ⌝ }
+{
+    let mut i = 0;
+    while i < b.len() {
+        if a[i] != b[i] {
+            return false;
+        }
+        i += 1;
+    }
+    true
 }

@@ -1,13 +1,13 @@
--- `matrices::same_entries` meets its contract. The loop's invariant: the lists are equal if what is left of them is.
+-- `labelling::same_entries` meets its contract. The loop's invariant: the lists are equal if what is left of them is.
 use Prim.Native.Nat.{_-_, _≤_}
 use mathlib.Core.Path.{_≡_, refl, sym, _∙_}
 use native.Mathlib.Omega.{arith}
 use borrow.Author.Needs.{needs}
 use lib.ListN.{length, take}
 use lib.Seq.{length-take-le, getD-take}
-use Rattle.catalogue.proofs.MatrixRows.{Same, same-passed, same-failed, same-ended}
-use Rattle.catalogue.proofs.matrices.same_entries.Statement.{statement}
-use Rattle.catalogue.proofs.matrices.same_entries.Tie as tie
+use Rattle.labelling.proofs.NotedTurns.{Same, same-passed, same-failed, same-ended}
+use Rattle.labelling.proofs.same_entries.Statement.{statement}
+use Rattle.labelling.proofs.same_entries.Tie as tie
 
 abbrev Inv-loop : tie.InvT-loop
 Inv-loop a b i₀ i = (length (take (length b) a) ≡ length b) × (i ≤ length b) × Same (take (length b) a) b i
