@@ -1,11 +1,10 @@
--- The lemmas of the smallest moves and of runs along a path, with the theorem that such a run is judged good.
-pub mod Padding
-pub mod Turns
-pub mod Scanning
-pub mod ParameterSearch
+-- The lemmas of the smallest moves and of runs along a path.
+pub mod SlotValues
 pub mod Tried
+pub mod Pool
+pub mod ParameterSearch
 pub mod SmallestMoves
-pub mod Callers
+pub mod Stands
 pub mod Pasting
 pub mod Nodes
 pub mod Moving

@@ -7,7 +7,7 @@ use mathlib.Core.Option.{Option, none, some}
 use mathlib.Core.Path.{_≡_, refl, sym, ap, _∙_}
 use native.Mathlib.Omega.{arith}
 use lib.ListN.{length, getD, take, drop, set, drop-of-length-le}
-use lib.Seq.{drop-cons}
+use lib.Seq.{drop-cons, take-all}
 use Rattle.graphs.specs.Lists.{upFrom, select, first, eqList}
 use Rattle.classes.specs.Classes.{noted, labels, notes, identifiers}
 use Rattle.classes.proofs.Legal.{labels-length}
@@ -17,7 +17,7 @@ use Rattle.lists.specs.Arrays.{padded}
 use Rattle.forms.specs.Slots.{holdsAll, valuesFrom}
 use Rattle.concretization.specs.declared.Found.{Found}
 use Rattle.concretization.specs.Parameters.{worth, tries, suits, foundOf, labelSlots, wantedOf, sought, newContents}
-use Rattle.lists.proofs.Arrays.{padded-take}
+use Rattle.lists.proofs.Arrays.{padded-length, padded-take}
 
 -- One list of values
 
@@ -25,10 +25,11 @@ module _ (x : Arc) (cs wanted vals : List ℕ) where
   pub judge-guard : holdsAll (x .guard) vals ≡ false → foundOf none ≡ foundOf (first (suits x cs wanted) (vals ∷ []))
   judge-guard h = ap (λ b. foundOf (cond (b && eqList (padded 5 (labels cs (valuesFrom vals (x .source) 0 (x .sets)))) wanted) (some vals) none)) (sym h)
 
-  pub judge-labels : (b : Bool) {ls : List ℕ} → holdsAll (x .guard) vals ≡ true → ls ≡ padded 5 (labels cs (valuesFrom vals (x .source) 0 (x .sets))) → eqList ls wanted ≡ b
-      → foundOf (cond b (some vals) none) ≡ foundOf (first (suits x cs wanted) (vals ∷ []))
-  judge-labels b h l e =
-      ap (λ d. foundOf (cond d (some vals) none)) (sym e ∙ ap (λ z. eqList z wanted) l)
+  pub judge-labels : (b : Bool) {ls : List ℕ} → length wanted ≡ 5 → holdsAll (x .guard) vals ≡ true → ls ≡ padded 5 (labels cs (valuesFrom vals (x .source) 0 (x .sets)))
+      → eqList (take (length wanted) ls) wanted ≡ b → foundOf (cond b (some vals) none) ≡ foundOf (first (suits x cs wanted) (vals ∷ []))
+  judge-labels b {ls} n h l e =
+      let five : length ls ≡ 5 = ap length l ∙ padded-length 5 _ in
+      ap (λ d. foundOf (cond d (some vals) none)) (sym e ∙ ap (λ z. eqList z wanted) (take-all (length wanted) ls (omega arith) ∙ l))
       ∙ ap (λ d. foundOf (cond (d && eqList (padded 5 (labels cs (valuesFrom vals (x .source) 0 (x .sets)))) wanted) (some vals) none)) (sym h)
 
 -- What a search says

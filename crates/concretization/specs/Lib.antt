@@ -1,5 +1,4 @@
 -- What the contracts of the smallest moves, and of runs along a path, cite.
-pub mod Noting
 pub mod Parameters
 pub mod SmallestMove
 pub mod RunLines

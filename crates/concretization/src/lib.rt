@@ -109,21 +109,6 @@ fn worth_trying(s: Seen, f: u32, x: u32) -> bool
     x == f
 }
 
-// Whether two lists of labels are the same.
-fn same(a: [u8; 5], b: [u8; 5]) -> bool
-    ensures { λ r. ⌜ r ≡ eqList a b ⌝ }
-{
-    let mut i = 0;
-    while i < 5 {
-        if a[i] == b[i] {
-            i += 1;
-        } else {
-            return false;
-        }
-    }
-    true
-}
-
 // These values, if with them the guard holds and the values written have the labels wanted.
 fn judge(arc: Arc, base: Seen, wanted: [u8; 5], vals: [u32; 10]) -> Found
     requires { ⌜ Fits arc × Tidy 2 base ⌝ }
@@ -138,7 +123,7 @@ fn judge(arc: Arc, base: Seen, wanted: [u8; 5], vals: [u32; 10]) -> Found
         let source = arc.source;
         let written = scan(base, vals, source, arc.sets as usize);
         let labels = written.labels;
-        if same(labels, wanted) {
+        if labelling::same_entries(&labels, &wanted) {
             return Found {
                 found: true,
                 vals: vals,

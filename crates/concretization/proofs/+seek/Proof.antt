@@ -7,10 +7,9 @@ use native.Mathlib.Omega.{arith}
 use lib.ListN.{length, getD, drop, set}
 use Rattle.graphs.specs.Lists.{first}
 use Rattle.classes.specs.Classes.{noted}
-use Rattle.concretization.specs.Noting.{known}
+use Rattle.labelling.specs.Noted.{known}
 use Rattle.concretization.specs.Parameters.{tries, suits, foundOf}
-use Rattle.concretization.proofs.Padding.{tidy-wider}
-use Rattle.concretization.proofs.Scanning.{next-tidy, next-known}
+use Rattle.labelling.proofs.Noted.{next-known, next-tidy, tidy-wider}
 use Rattle.concretization.proofs.ParameterSearch.{triedWith, turn-skip, turn-fails, turn-finds, turn-done, tries-last, tries-first, tries-next}
 use borrow.Fn.Kinds.{In}
 use borrow.Fn.PlainCycle.{Measures, is, falls, and}
@@ -18,8 +17,8 @@ use Rattle.concretization.proofs.seek.Reads as seek
 use Rattle.concretization.proofs.seek.Kinds as seek-kinds
 use Rattle.concretization.proofs.+seek.Lts-seek as seek-lts
 use Rattle.concretization.proofs.judge.Reads as judge-reads
-use Rattle.concretization.proofs.note.Reads as note-reads
-use Rattle.concretization.proofs.smallest_other.Reads as smallest-other-reads
+use Rattle.labelling.proofs.note.Reads as note-reads
+use Rattle.labelling.proofs.smallest_other.Reads as smallest-other-reads
 use Rattle.concretization.proofs.worth_trying.Reads as worth-trying-reads
 use Rattle.concretization.proofs.+seek.{statement}
 use Rattle.concretization.proofs.+seek.Tie.{close}

@@ -10,8 +10,9 @@ use borrow.Author.Needs.{needs}
 use Rattle.graphs.specs.Lists.{upFrom}
 use Rattle.moves.specs.Moves.{pool}
 use Rattle.lists.specs.Arrays.{padded}
-use Rattle.concretization.specs.Noting.{seenOf, known, Tidy}
-use Rattle.concretization.proofs.Padding.{take-one, take-two, tidy-seenOf, known-seenOf, pool-more, pool-length}
+use Rattle.labelling.specs.Noted.{seenOf, known, Tidy}
+use Rattle.labelling.proofs.Noted.{known-seenOf, take-one, take-two, tidy-seenOf}
+use Rattle.concretization.proofs.Pool.{pool-length, pool-more}
 use Rattle.concretization.proofs.choices.Statement.{statement}
 use Rattle.concretization.proofs.choices.Tie as tie
 

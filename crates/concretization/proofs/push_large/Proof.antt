@@ -4,7 +4,7 @@ use mathlib.Core.Path.{sym, ap, _∙_}
 use mathlib.Core.Bool.{cond}
 use mathlib.Core.List.{[], _∷_, _++_}
 use borrow.Author.Tests.{le-leb, lt-leb}
-use Rattle.concretization.specs.Noting.{seenOf, known}
+use Rattle.labelling.specs.Noted.{seenOf, known}
 use Rattle.concretization.proofs.push_large.Statement.{statement}
 use Rattle.concretization.proofs.push_large.Tie as tie
 

@@ -3,7 +3,7 @@
 use mathlib.Core.Path.{_∙_, ap}
 use lib.Dec.{eqb}
 use native.Mathlib.Omega.{arith}
-use Rattle.concretization.proofs.Scanning.{worth-known, worth-fresh}
+use Rattle.concretization.proofs.SlotValues.{worth-fresh, worth-known}
 use Rattle.concretization.proofs.worth_trying.Statement.{statement}
 use Rattle.concretization.proofs.worth_trying.Tie as tie
 

@@ -1,13 +1,9 @@
+-- `along::class_contents` meets its contract.
+-- Assumes nothing.
+use Rattle.concretization.proofs.Nodes.{labels-legal, contents-given}
 use borrow.Author.Needs.{needs}
 use Rattle.concretization.proofs.along.class_contents.Statement.{statement}
 use Rattle.concretization.proofs.along.class_contents.Tie as tie
-use Rattle.concretization.proofs.along.class_contents.Reads as reads
-use Rattle.concretization.proofs.along.class_contents.Lts as lts
-use Rattle.catalogue.proofs.contents_of.Reads as contents-of-reads
-use Rattle.concretization.proofs.along.class_row.Reads as class-row-reads
-use Rattle.forms.proofs.constant_values.Reads as constant-values-reads
-use Rattle.forms.proofs.constants.Reads as constants-reads
-use Rattle.forms.proofs.registers.Reads as registers-reads
 
 class-row-requires : tie.Need-class-row-requires
 class-row-requires c κs = search needs
@@ -22,10 +18,19 @@ registers-requires : tie.Need-registers-requires
 registers-requires c κs = search needs
 
 contents-of-requires : tie.Need-contents-of-requires
-contents-of-requires c κs = search needs
+contents-of-requires c κs =
+    let e = c .before .before .before .before .before .before in
+    let a = e .args in (
+      c .before .constants .ensures .1,
+      c .registers .ensures .1,
+      labels-legal (a .form .now) (a .cat .now) (a .n) (e .pre .0) (a .k) (e .pre .1) _ (c .before .before .before .class-row .ensures) _ _ (c .registers .ensures .0) (c .before .constants .ensures .0),
+    )
 
 returns : tie.Need-returns
-returns c = search needs
+returns c =
+    let e = c .before .before .before .before .before .before .before in
+    let a = e .args in
+    contents-given (a .form .now) (a .cat .now) (a .n) (e .pre .0) (a .k) (e .pre .1) _ (c .before .before .before .before .class-row .ensures) _ _ (c .before .registers .ensures .0) (c .before .before .constants .ensures .0) _ _ (c .before .before .before .constant-values .ensures) (c .contents-of .ensures)
 
 pub class-contents-spec : {M : Type 1} → statement M
 class-contents-spec =
