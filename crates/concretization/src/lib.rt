@@ -4,7 +4,6 @@ pub mod along;
 
 pub use along::class_contents;
 pub use along::write_run;
-
 ghost use mathlib.Core.Path.{_≡_};
 ghost use mathlib.Core.Bool.{cond, true, _&&_};
 ghost use mathlib.Core.List.{[], _∷_, _++_};
@@ -157,7 +156,15 @@ fn seek(
         if worth_trying(seen, f, x) {
             let mut w = vals;
             w[7 + depth] = x;
-            let r = seek(arc, base, wanted, pool, depth + 1, labelling::note(seen, x), w);
+            let r = seek(
+                arc,
+                base,
+                wanted,
+                pool,
+                depth + 1,
+                labelling::note(seen, x),
+                w,
+            );
             if r.found {
                 return r;
             }

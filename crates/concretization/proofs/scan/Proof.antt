@@ -3,7 +3,6 @@
 use mathlib.Core.Path.{ap, _∙_}
 use Rattle.labelling.specs.Noted.{labelled}
 use Rattle.concretization.proofs.SlotValues.{values-front}
-use borrow.Author.Needs.{needs}
 use Rattle.concretization.proofs.scan.Statement.{statement}
 use Rattle.concretization.proofs.scan.Tie as tie
 

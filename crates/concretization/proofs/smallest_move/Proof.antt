@@ -9,7 +9,6 @@ use Rattle.moves.specs.Moves.{smallestFrom, smallest}
 use Rattle.forms.specs.TableForm.{automatonOf}
 use Rattle.concretization.specs.SmallestMove.{stateAt, classAt, paddedMove}
 use Rattle.concretization.proofs.SmallestMoves.{smallest-here, smallest-later, smallest-left, smallest-next, smallest-none}
-use borrow.Author.Needs.{needs}
 use Rattle.concretization.proofs.smallest_move.Statement.{statement}
 use Rattle.concretization.proofs.smallest_move.Tie as tie
 

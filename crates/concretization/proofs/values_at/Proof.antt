@@ -1,4 +1,3 @@
-
 use Prim.Native.Nat.{_-_, _≤_}
 use mathlib.Core.Path.{_≡_, refl, ap, _∙_}
 use native.Mathlib.Omega.{arith}
@@ -9,6 +8,7 @@ use Rattle.labelling.proofs.NotedTurns.{entry-more}
 use Rattle.concretization.proofs.SlotValues.{values-length, values-step}
 use Rattle.concretization.proofs.values_at.Statement.{statement}
 use Rattle.concretization.proofs.values_at.Tie as tie
+
 -- `concretization::values_at` meets its contract: the values in the first i slots are there.
 -- Assumes nothing.
 

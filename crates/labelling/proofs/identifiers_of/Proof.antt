@@ -56,8 +56,7 @@ loop-again : tie.Need-loop-again Inv-loop μ-loop
 loop-again c =
     let l = c .before .before .before .loop in
     let e = c .before .before .before .before in
-    let u = c .before .before .loop-test .taken in
-    (
+    let u = c .before .before .loop-test .taken in (
       omega (arith, u),
       l .inv .1,
       found-seen (e .args .s) (e .pre .0) (e .args .t2) (l .i) (omega (arith, e .pre .1, u)) (omega (arith, e .pre .1, u, l .inv .1)) (l .inv .2) (c .before .identifier-of .ensures) (c .note .ensures),

@@ -1,9 +1,8 @@
 -- `scan::contents_of` meets its contract.
 -- Assumes nothing.
-use Prim.Native.Nat.{_≤_}
 use mathlib.Core.Path.{_≡_, ap, _∙_}
 use native.Mathlib.Omega.{arith}
-use lib.ListN.{length, getD, take}
+use lib.ListN.{length, take}
 use lib.Seq.{length-take-le, getD-take}
 use Rattle.lists.specs.Arrays.{padded}
 use Rattle.classes.specs.Classes.{identifiers}

@@ -6,7 +6,6 @@ use Rattle.lists.specs.Arrays.{padded}
 use Rattle.classes.specs.Classes.{contents}
 use Rattle.forms.specs.TableForm.{automatonOf}
 use Rattle.concretization.proofs.Nodes.{some-class, class-below, class-is}
-use borrow.Author.Needs.{needs}
 use Rattle.concretization.proofs.along.contents_at.Statement.{statement}
 use Rattle.concretization.proofs.along.contents_at.Tie as tie
 

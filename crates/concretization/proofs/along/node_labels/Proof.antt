@@ -4,7 +4,6 @@ use mathlib.Core.Path.{ap, _∙_}
 use native.Mathlib.Omega.{arith}
 use Rattle.lists.specs.Arrays.{padded}
 use Rattle.concretization.proofs.Nodes.{some-class, class-below, class-is}
-use borrow.Author.Needs.{needs}
 use Rattle.concretization.proofs.along.node_labels.Statement.{statement}
 use Rattle.concretization.proofs.along.node_labels.Tie as tie
 
