@@ -8,9 +8,10 @@ use native.Mathlib.Decide.{decLt}
 use native.Mathlib.Nat.{sub-zero, zero-sub, suc-sub-suc}
 use native.Mathlib.Numerals.{add-one}
 use native.Mathlib.Omega.{arith}
-use lib.ListN.{length, getD, take, drop, set, replicate, length-append, length-take, length-drop, length-replicate, drop-of-length-le, List·getD-append, List·getD-eq-default}
-use lib.Seq.{paste, paste-suc, drop-cons, take-suc, take-at, drop-at, drop-append-add, take-append-seam, set-at, append-snoc, length-take-le, take-add, drop-drop, take-length, getD-append-add, getD-take, getD-drop}
-use Rattle.catalogue.specs.Arrays.{padded, written, Begins}
+use lib.ListN.{length, getD, take, drop, set, replicate, length-append, drop-of-length-le}
+use lib.Seq.{paste, paste-suc, drop-cons, take-suc, take-at, drop-at, drop-append-add, set-at, append-snoc, length-take-le, take-add, drop-drop, take-length, getD-take, getD-drop}
+use Rattle.lists.specs.Arrays.{padded, written}
+use Rattle.lists.proofs.Arrays.{padded-zeros, padded-take}
 
 -- Rows
 
@@ -70,50 +71,18 @@ module _ (s buffer : List ℕ) where
   pub overlay-all : (j : ℕ) → j ≡ length s → overlay s buffer j ≡ written s buffer
   overlay-all j e = rw e (ap (λ r. r ++ drop (length s) buffer) (take-length s))
 
--- the front of a buffer that a list was written to
-pub written-begins : (s buffer : List ℕ) → Begins s (written s buffer)
-written-begins s buffer = take-append-seam s (drop (length s) buffer)
-
-pub written-length : (s buffer : List ℕ) → length s ≤ length buffer → length (written s buffer) ≡ length buffer
-written-length s buffer h = omega (arith, length-append s (drop (length s) buffer), length-drop (length s) buffer)
-
-pub written-entry : (s buffer : List ℕ) (i : ℕ) → i < length s → getD (written s buffer) i 0 ≡ getD s i 0
-written-entry s buffer i h = List·getD-append s (drop (length s) buffer) 0 i h
-
-pub begins-entry : (s buffer : List ℕ) (i : ℕ) → Begins s buffer → i < length s → getD buffer i 0 ≡ getD s i 0
-begins-entry s buffer i b h = sym (getD-take (length s) buffer i 0 h) ∙ ap (λ l. getD l i 0) b
-
-pub begins-length : (s buffer : List ℕ) → Begins s buffer → length s ≤ length buffer
-begins-length s buffer b = omega (arith, length-take (length s) buffer, ap (λ l. length l) b)
-
 -- Arrays of five
 
-pub drop-replicate : (n m : ℕ) → drop {A = ℕ} n (replicate m 0) ≡ replicate (m - n) 0
+drop-replicate : (n m : ℕ) → drop {A = ℕ} n (replicate m 0) ≡ replicate (m - n) 0
 drop-replicate zero m = rw (sub-zero m)
 drop-replicate (suc n) zero = rw (zero-sub (suc n))
 drop-replicate (suc n) (suc m) = drop-replicate n m ∙ rw (suc-sub-suc m n)
 
-pub overlay-padded : (s : List ℕ) (j : ℕ) → j ≡ length s → overlay s (replicate 5 0) j ≡ padded s
-overlay-padded s j e = overlay-all s (replicate 5 0) j e ∙ ap (λ r. s ++ r) (drop-replicate (length s) 5)
+overlay-padded : (s : List ℕ) (j : ℕ) → j ≡ length s → j ≤ 5 → overlay s (replicate 5 0) j ≡ padded 5 s
+overlay-padded s j e h = overlay-all s (replicate 5 0) j e ∙ ap (λ r. s ++ r) (drop-replicate (length s) 5) ∙ sym (padded-zeros 5 s (omega arith))
 
-pub padded-length : (s : List ℕ) → length s ≤ 5 → length (padded s) ≡ 5
-padded-length s h = omega (arith, length-append s (replicate (5 - length s) 0), length-replicate {A = ℕ} (5 - length s) 0)
-
-pub padded-front : (s : List ℕ) (r : ℕ) → length s ≡ r → take r (padded s) ≡ s
-padded-front s r e = take-at s (replicate (5 - length s) 0) r e
-
-replicate-entry : (n i : ℕ) → getD {A = ℕ} (replicate n 0) i 0 ≡ 0
-replicate-entry zero i = refl
-replicate-entry (suc n) zero = refl
-replicate-entry (suc n) (suc i) = replicate-entry n i
-
-pub padded-entry : (s : List ℕ) (i : ℕ) → getD (padded s) i 0 ≡ getD s i 0
-padded-entry s i = by-cases (decLt i (length s))
-    (λ h. List·getD-append s (replicate (5 - length s) 0) 0 i h)
-    (λ h.
-    let e : i ≡ length s + (i - length s) = omega arith in
-    ap (λ j. getD (padded s) j 0) e ∙ getD-append-add s (replicate (5 - length s) 0) (i - length s) 0 ∙ replicate-entry (5 - length s) (i - length s)
-    ∙ sym (List·getD-eq-default s 0 {n = i} (omega arith)))
+pub padded-front : (s : List ℕ) (r : ℕ) → length s ≡ r → r ≤ 5 → take r (padded 5 s) ≡ s
+padded-front s r e h = ap (λ n. take n (padded 5 s)) (sym e) ∙ padded-take 5 s (omega arith)
 
 -- an array of five zeros to which the first i entries of a list are written
 pub record Copied (s k : List ℕ) (i : ℕ) : Type 0 where
@@ -129,8 +98,8 @@ copied-next s k i y q h e =
     let five = q .fits in
     record { within = omega arith; fits = five; done = rw (q .done) (overlay-next s (replicate 5 0) i y h (omega arith) e) }
 
-pub copied-ended : (s k : List ℕ) (i : ℕ) → Copied s k i → length s ≤ i → k ≡ padded s
-copied-ended s k i q h = q .done ∙ overlay-padded s i (omega (arith, q .within))
+pub copied-ended : (s k : List ℕ) (i : ℕ) → Copied s k i → length s ≤ i → k ≡ padded 5 s
+copied-ended s k i q h = q .done ∙ overlay-padded s i (omega (arith, q .within)) (omega (arith, q .within, q .fits))
 
 -- Writing from a place on
 

@@ -1,6 +1,6 @@
 -- The catalogue is legal, rising and complete: its rows are the lists for five registers and two constants.
 -- Assumes nothing.
-use Prim.Native.Nat.{ℕ, zero, suc, _<_}
+use Prim.Native.Nat.{ℕ, zero, suc, _≤_, _<_, max}
 use mathlib.Core.List.{List, [], _∷_, flatMap, List·Memᴰ}
 use mathlib.Core.Path.{_≡_, refl, subst, _∙_}
 use native.Mathlib.Omega.{arith}
@@ -47,3 +47,9 @@ catalogue-complete = record {
       let (n, h, f) = mem-getD [] listed in
       (n, omega (arith, catalogue-count), catalogue-row n (omega (arith, catalogue-count)) ∙ f);
 }
+
+-- a legal list's labels are at least 1
+pub legal-positive : (b : ℕ) (k : List ℕ) → Legal b k → (i : ℕ) → i < length k → 1 ≤ getD k i 0
+legal-positive b [] h i a = absurd (omega arith)
+legal-positive b (x ∷ k) h zero a = h .0
+legal-positive b (x ∷ k) h (suc i) a = legal-positive (max b x) k (h .2) i (omega arith)

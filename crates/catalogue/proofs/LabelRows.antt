@@ -1,7 +1,7 @@
 -- The flat list of the labels of all classes: its length, its rows and its entries.
 -- Assumes nothing.
 use Prim.Native.Nat.{ℕ, zero, suc, _+_, _*_, _≤_, _<_, max}
-use mathlib.Core.List.{List, [], _∷_, List·Memᴰ}
+use mathlib.Core.List.{List, [], _∷_}
 use mathlib.Core.Logic.{by-cases}
 use mathlib.Core.Path.{_≡_, sym, ap, _∙_}
 use native.Mathlib.Decide.{decLt}
@@ -10,10 +10,11 @@ use lib.ListN.{length, getD, take, drop, List·getD-eq-default}
 use lib.Seq.{paste, take-all}
 use Rattle.graphs.proofs.Lists.{row-column}
 use Rattle.classes.specs.Classes.{Legal, lists}
-use Rattle.catalogue.specs.Arrays.{padded, Begins}
+use Rattle.lists.specs.Arrays.{padded}
+use Rattle.lists.proofs.Arrays.{padded-length, padded-entry}
 use Rattle.catalogue.specs.Serving.{labelRows}
-use Rattle.catalogue.proofs.Buffers.{flat-length, flat-row, row-entry, padded-length, padded-entry, overlay, overlay-row, begins-entry}
-use Rattle.catalogue.proofs.Complete.{lists-legal, lists-width}
+use Rattle.catalogue.proofs.Buffers.{flat-length, flat-row, row-entry, overlay, overlay-row}
+use Rattle.catalogue.proofs.Complete.{lists-legal}
 
 legal-entry : (b : ℕ) (k : List ℕ) (i : ℕ) → Legal b k → getD k i 0 ≤ b + length k
 legal-entry b [] i l = omega arith
@@ -21,25 +22,21 @@ legal-entry b (x ∷ k) zero (low, high, rest) = omega arith
 legal-entry b (x ∷ k) (suc i) (low, high, rest) = omega (arith, legal-entry (max b x) k i rest)
 
 module _ (r c : ℕ) (h : r ≤ 5) where
-  width : (k : List ℕ) → List·Memᴰ k (lists r c) → length (padded k) ≡ 5
-  width k m = padded-length k (omega (arith, lists-width r c k m))
-
   pub label-rows-length : length (labelRows r c) ≡ length (lists r c) * 5
   unfolding labelRows
-  label-rows-length = flat-length padded 5 (lists r c) width
+  label-rows-length = flat-length (padded 5) 5 (lists r c) (λ k m. padded-length 5 k)
 
-  pub label-rows-row : (k : ℕ) → k < length (lists r c) → take 5 (drop (k * 5) (labelRows r c)) ≡ padded (getD (lists r c) k [])
+  pub label-rows-row : (k : ℕ) → k < length (lists r c) → take 5 (drop (k * 5) (labelRows r c)) ≡ padded 5 (getD (lists r c) k [])
   unfolding labelRows
-  label-rows-row k l = flat-row padded 5 (lists r c) [] width k l
+  label-rows-row k l = flat-row (padded 5) 5 (lists r c) [] (λ q m. padded-length 5 q) k l
 
   -- the labels of one class more
   pub label-rows-more : (buffer : List ℕ) (k : ℕ) → k < length (lists r c) → 5 * length (lists r c) ≤ length buffer
-      → paste (overlay (labelRows r c) buffer (k * 5)) (k * 5) (padded (getD (lists r c) k [])) 5 ≡ overlay (labelRows r c) buffer ((k + 1) * 5)
+      → paste (overlay (labelRows r c) buffer (k * 5)) (k * 5) (padded 5 (getD (lists r c) k [])) 5 ≡ overlay (labelRows r c) buffer ((k + 1) * 5)
   label-rows-more buffer k l room =
       let e : k * 5 + 5 ≡ (k + 1) * 5 = omega arith in
-      let five : length (padded (getD (lists r c) k [])) ≡ 5 = padded-length (getD (lists r c) k []) (omega (arith, lists-legal r c k l .1)) in
-      overlay-row (labelRows r c) buffer (k * 5) 5 (padded (getD (lists r c) k [])) (omega (arith, label-rows-length)) (omega arith)
-      (take-all 5 (padded (getD (lists r c) k [])) (omega arith) ∙ sym (label-rows-row k l))
+      overlay-row (labelRows r c) buffer (k * 5) 5 (padded 5 (getD (lists r c) k [])) (omega (arith, label-rows-length)) (omega arith)
+      (take-all 5 (padded 5 (getD (lists r c) k [])) (omega (arith, padded-length 5 (getD (lists r c) k []))) ∙ sym (label-rows-row k l))
       ∙ ap (overlay (labelRows r c) buffer) e
 
   -- label i of class k
@@ -49,7 +46,7 @@ module _ (r c : ℕ) (h : r ≤ 5) where
       ap (λ j. getD (labelRows r c) j 0) e
       ∙ sym (row-entry (labelRows r c) 5 k i b)
       ∙ ap (λ q. getD q i 0) (label-rows-row k l)
-      ∙ padded-entry (getD (lists r c) k []) i
+      ∙ padded-entry 5 (getD (lists r c) k []) i (omega (arith, lists-legal r c k l .1))
 
   pub label-rows-small : c ≤ 2 → (i : ℕ) → getD (labelRows r c) i 0 < 8
   label-rows-small b i = by-cases (decLt i (length (labelRows r c)))
@@ -60,8 +57,3 @@ module _ (r c : ℕ) (h : r ≤ 5) where
       ap (λ q. getD (labelRows r c) q 0) (omega arith) ∙ label-rows-entry k j kb jb in
       omega (arith, f, legal-entry c (getD (lists r c) k []) j legal))
       (λ l. omega (arith, List·getD-eq-default (labelRows r c) 0 {n = i} (omega arith)))
-
-  -- the same of a buffer that has the list at its front
-  pub begins-label : (flat : List ℕ) → Begins (labelRows r c) flat → (k i : ℕ) → k < length (lists r c) → i < 5
-      → getD flat (5 * k + i) 0 ≡ getD (getD (lists r c) k []) i 0
-  begins-label flat b k i l j = begins-entry (labelRows r c) flat (5 * k + i) b (omega (arith, label-rows-length)) ∙ label-rows-entry k i l j

@@ -4,6 +4,5 @@ pub mod Buffers
 pub mod Complete
 pub mod Narrowed
 pub mod LabelRows
-pub mod Scanned
 pub mod Ranked
 pub mod MatrixRows

@@ -1,7 +1,7 @@
 -- The matrix of a valuation, row by row, and the valuation that is made from a matrix.
 -- Assumes nothing.
 use Prim.Native.Nat.{ℕ, zero, suc, _+_, _*_, _-_, _≤_, _<_}
-use mathlib.Core.Bool.{true, false, cond}
+use mathlib.Core.Bool.{cond}
 use mathlib.Core.List.{List, [], _∷_, map, flatMap, List·Memᴰ, List·Memᴰ·head, List·Memᴰ·tail}
 use mathlib.Core.Logic.{_≢_, by-cases}
 use mathlib.Core.Option.{Option, none, some}
@@ -22,10 +22,11 @@ use Rattle.classes.proofs.Catalogue.{lists-mem}
 use Rattle.classes.proofs.Labels.{position-cons-same, position-cons-other, position-found}
 use Rattle.classes.proofs.Legal.{labels-length, labels-legal, upFrom-distinct}
 use Rattle.classes.proofs.Matrices.{matrix-labels, class-of-matrix-is}
-use Rattle.catalogue.specs.Arrays.{padded, written}
+use Rattle.lists.specs.Arrays.{padded, written}
+use Rattle.labelling.proofs.Noted.{marks-take}
 use Rattle.catalogue.specs.Matrices.{firstEqual, registerOf, valuationOf}
 use Rattle.catalogue.proofs.Buffers.{flat-row, overlay, overlay-row, padded-front}
-use Rattle.catalogue.proofs.Scanned.{legal-positive}
+use Rattle.catalogue.proofs.Complete.{legal-positive}
 
 -- The entries of a row
 
@@ -91,23 +92,6 @@ row-fits r i h = omega (arith, mul-le-mul-right r h)
 pub square-fits : (r : ℕ) → r ≤ 5 → r * r ≤ 25
 square-fits r h = omega (arith, mul-le-mul-right r h)
 
--- the labels of at most two constants
-pub marks : (c : ℕ) → c ≤ 2 → take c (1 ∷ 2 ∷ []) ≡ upFrom 1 c
-marks zero h = refl
-marks (suc zero) h = refl
-marks (suc (suc zero)) h = refl
-marks (suc (suc (suc c))) h = absurd (omega arith)
-
--- a list of five, written out
-pub five-entries : (k : List ℕ) → length k ≡ 5 → getD k 0 0 ∷ getD k 1 0 ∷ getD k 2 0 ∷ getD k 3 0 ∷ getD k 4 0 ∷ [] ≡ k
-five-entries [] e = absurd (omega arith)
-five-entries (a ∷ []) e = absurd (omega arith)
-five-entries (a ∷ b ∷ []) e = absurd (omega arith)
-five-entries (a ∷ b ∷ c ∷ []) e = absurd (omega arith)
-five-entries (a ∷ b ∷ c ∷ d ∷ []) e = absurd (omega arith)
-five-entries (a ∷ b ∷ c ∷ d ∷ f ∷ []) e = refl
-five-entries (a ∷ b ∷ c ∷ d ∷ f ∷ g ∷ k) e = absurd (omega arith)
-
 -- The search for the first equal register: its place, counted from j, in what is left
 
 abbrev pub Equal : List ℕ → ℕ → Type 0
@@ -128,21 +112,6 @@ module _ (s : List ℕ) (j x : ℕ) (q : Equal s j) where
   equal-ended h =
       let z : firstEqual (drop j s) ≡ 0 = rw (drop-of-length-le s {i = j} h) in
       omega arith
-
--- The comparison of two lists, entry by entry
-
-abbrev pub Same : List ℕ → List ℕ → ℕ → Type 0
-Same k l i = eqList k l ≡ eqList (drop i k) (drop i l)
-
-module _ (k l : List ℕ) (i : ℕ) (e : length k ≡ length l) (q : Same k l i) where
-  pub same-passed : i < length l → getD k i 0 ≡ getD l i 0 → Same k l (i + 1)
-  same-passed h f = q ∙ rw (add-one i, drop-cons k i 0 (omega arith), drop-cons l i 0 h, eq-eqb (getD k i 0) (getD l i 0) f)
-
-  pub same-failed : i < length l → getD k i 0 ≢ getD l i 0 → eqList k l ≡ false
-  same-failed h f = q ∙ rw (drop-cons k i 0 (omega arith), drop-cons l i 0 h, ne-eqb (getD k i 0) (getD l i 0) f)
-
-  pub same-ended : length l ≤ i → eqList k l ≡ true
-  same-ended h = q ∙ rw (drop-of-length-le k {i = i} (omega arith), drop-of-length-le l {i = i} h)
 
 -- The valuation of a matrix
 
@@ -274,13 +243,13 @@ class-missing r c m small n = step (classOfMatrix r c m) (first-is (λ k. eqList
         (subst (λ l. matrix (upFrom 1 c) (valuationOf (length k) l) ≡ l) own (valuation-matrix c k small legal))))
 
 -- the valuation at the front of an array, and its matrix at the front of a buffer
-module _ (r c : ℕ) (m u : List ℕ) (e : u ≡ padded (valuationOf r m)) where
+module _ (r c : ℕ) (five : r ≤ 5) (m u : List ℕ) (e : u ≡ padded 5 (valuationOf r m)) where
   pub valuation-front : take r u ≡ valuationOf r m
-  valuation-front = ap (take r) e ∙ padded-front (valuationOf r m) r (valuation-length r m)
+  valuation-front = ap (take r) e ∙ padded-front (valuationOf r m) r (valuation-length r m) five
 
   pub matrix-front : (own buffer : List ℕ) → c ≤ 2 → length m ≡ r * r → own ≡ written (matrix (take c (1 ∷ 2 ∷ [])) (take r u)) buffer
       → take (length m) own ≡ matrix (upFrom 1 c) (valuationOf r m)
   matrix-front own buffer small len w =
       let full : length (matrix (upFrom 1 c) (valuationOf r m)) ≡ length m =
       matrix-length (upFrom 1 c) (valuationOf r m) ∙ ap₂ _*_ (valuation-length r m) (valuation-length r m) ∙ sym len in
-      rw (w, marks c small, valuation-front) (take-at (matrix (upFrom 1 c) (valuationOf r m)) _ (length m) full)
+      rw (w, marks-take c small, valuation-front) (take-at (matrix (upFrom 1 c) (valuationOf r m)) _ (length m) full)

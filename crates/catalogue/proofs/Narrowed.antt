@@ -13,7 +13,7 @@ use lib.Seq.{drop-cons, length-take-le, getD-take}
 use Rattle.graphs.specs.Lists.{upFrom, eqList, select}
 use Rattle.graphs.proofs.Lists.{and-elim, eqList→eq, getD-map, getD-mem, select-mem, upFrom-mem}
 use Rattle.classes.specs.Classes.{lists}
-use Rattle.catalogue.specs.Arrays.{written}
+use Rattle.lists.specs.Arrays.{written}
 use Rattle.catalogue.specs.Catalogue.{catalogue, row}
 use Rattle.catalogue.specs.Serving.{servesLabel, serves, narrow, narrowRow, servingRows}
 use Rattle.catalogue.proofs.Tested.{below, below-pair}

@@ -1,5 +1,4 @@
 -- What the contracts cite.
-pub mod Arrays
 pub mod Catalogue
 pub mod Serving
 pub mod Numbers

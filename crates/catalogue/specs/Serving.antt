@@ -8,7 +8,7 @@ use lib.Dec.{eqb, leb, ltb}
 use lib.ListN.{take}
 use Rattle.graphs.specs.Lists.{select, upFrom}
 use Rattle.classes.specs.Classes.{lists}
-use Rattle.catalogue.specs.Arrays.{padded}
+use Rattle.lists.specs.Arrays.{padded}
 use Rattle.catalogue.specs.Catalogue.{catalogue, row}
 
 -- whether a label may stand where so many registers are left: none of a constant above c, and 1 where no register is left
@@ -35,4 +35,4 @@ servingRows r c = select (λ n. serves r c (row catalogue n)) (upFrom 0 674)
 
 -- the lists of all classes, five labels to a class with zeros after its own, one after the other
 unfoldable pub labelRows : ℕ → ℕ → List ℕ
-labelRows r c = flatMap padded (lists r c)
+labelRows r c = flatMap (padded 5) (lists r c)

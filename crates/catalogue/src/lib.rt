@@ -13,7 +13,6 @@ pub use numbers::class_count;
 pub use numbers::class_number;
 pub use numbers::class_of;
 pub use scan::contents_of;
-pub use scan::labels_of;
 pub use serving::class_labels;
 pub use serving::fill_labels;
 pub use serving::fill_rows;

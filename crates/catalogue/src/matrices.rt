@@ -6,20 +6,18 @@ ghost use Prim.Native.Nat.{_+_, _*_, _-_, _<_, _≤_};
 ghost use lib.Dec.{eqb, leb};
 ghost use lib.ListN.{length, take, drop};
 ghost use lib.Seq.{paste};
-ghost use Rattle.graphs.specs.Lists.{eqList};
 ghost use Rattle.classes.specs.Matrix.{cell, matrix, classMatrix, classOfMatrix};
-ghost use Rattle.catalogue.specs.Arrays.{padded, written};
+ghost use Rattle.lists.specs.Arrays.{padded, written};
 ghost use Rattle.catalogue.specs.Matrices.{found, firstEqual, valuationOf};
 use crate::Found;
 use crate::numbers::class_of;
-use crate::scan::position_of;
 
 // The entry of an identifier on the diagonal.
 fn own_entry(constants: [u32; 2], c: usize, x: u32) -> u8
     requires { ⌜ c ≤ 2 ⌝ }
     ensures { λ q. ⌜ q ≡ cell (take c constants) x x ⌝ }
 {
-    let p = position_of(&constants, c, x);
+    let p = labelling::position_of(&constants, c, x);
     if p < c {
         return (p + 2) as u8;
     }
@@ -52,25 +50,12 @@ pub fn matrix_of(constants: [u32; 2], c: usize, contents: [u32; 5], r: usize, ou
     }
 }
 
-// Labels as identifiers.
-fn identifiers_of(labels: [u8; 5]) -> [u32; 5]
-    ensures { λ q. ⌜ q ≡ labels ⌝ }
-{
-    [
-        labels[0] as u32,
-        labels[1] as u32,
-        labels[2] as u32,
-        labels[3] as u32,
-        labels[4] as u32,
-    ]
-}
-
 // The matrix of a class: its list is a valuation too, with the labels 1 to c for constants.
 pub fn class_matrix(c: usize, labels: [u8; 5], r: usize, out: &mut [u8])
     requires { ⌜ (c ≤ 2) × (r ≤ 5) × (r * r ≤ length (now out)) ⌝ }
     ensures { λ q. ⌜ now (out .exit) ≡ written (classMatrix c (take r labels)) (now (out .entry)) ⌝ }
 {
-    matrix_of([1, 2], c, identifiers_of(labels), r, out);
+    matrix_of([1, 2], c, labelling::wide_labels(labels), r, out);
 }
 
 // The first of the n entries from place `at` on that is not 0, counted from there; n where all are 0.
@@ -102,7 +87,7 @@ fn register_of(d: u8, first: u32) -> u32
 // A valuation of r registers, over the constants 1 and 2, that has the matrix where any has it; zeros after it.
 fn valuation_of(matrix: &[u8], r: usize) -> [u32; 5]
     requires { ⌜ (r ≤ 5) × (length (now matrix) ≡ r * r) ⌝ }
-    ensures { λ q. ⌜ q ≡ padded (valuationOf r (now (matrix .entry))) ⌝ }
+    ensures { λ q. ⌜ q ≡ padded 5 (valuationOf r (now (matrix .entry))) ⌝ }
 {
     let mut list = [0u32; 5];
     let mut i = 0;
@@ -114,21 +99,6 @@ fn valuation_of(matrix: &[u8], r: usize) -> [u32; 5]
     list
 }
 
-// Are the first entries of `a` those of `b`?
-fn same_entries(a: &[u8], b: &[u8]) -> bool
-    requires { ⌜ length (now b) ≤ length (now a) ⌝ }
-    ensures { λ q. ⌜ q ≡ eqList (take (length (now (b .entry))) (now (a .entry))) (now (b .entry)) ⌝ }
-{
-    let mut i = 0;
-    while i < b.len() {
-        if a[i] != b[i] {
-            return false;
-        }
-        i += 1;
-    }
-    true
-}
-
 // The class of r registers and c constants that has a matrix, or that no contents have it.
 pub fn class_of_matrix(matrix: &[u8], r: usize, c: usize) -> Found
     requires { ⌜ (r ≤ 5) × (c ≤ 2) × (length (now matrix) ≡ r * r) ⌝ }
@@ -137,7 +107,7 @@ pub fn class_of_matrix(matrix: &[u8], r: usize, c: usize) -> Found
     let contents = valuation_of(matrix, r);
     let mut own = [0u8; 25];
     matrix_of([1, 2], c, contents, r, &mut own);
-    if same_entries(&own, matrix) {
+    if labelling::same_entries(&own, matrix) {
         return Found::Class(class_of([1, 2], c, contents, r));
     }
     Found::NoClass

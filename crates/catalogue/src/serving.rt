@@ -5,7 +5,7 @@ ghost use Prim.Native.Nat.{_+_, _*_, _-_, _<_, _≤_};
 ghost use lib.ListN.{length, getD};
 ghost use lib.Seq.{paste};
 ghost use Rattle.classes.specs.Classes.{lists};
-ghost use Rattle.catalogue.specs.Arrays.{padded, written, Begins};
+ghost use Rattle.lists.specs.Arrays.{padded, written, Begins};
 ghost use Rattle.catalogue.specs.Catalogue.{catalogue, row};
 ghost use Rattle.catalogue.specs.Serving.{servesLabel, serves, narrow, servingRows, labelRows};
 use crate::numbers::class_count;
@@ -82,7 +82,7 @@ fn narrowed(c: u8, x: u8) -> u8
 // The labels of the class with this number; zeros after them.
 pub fn class_labels(table: &[u8], rows: &[u16], r: usize, c: usize, number: usize) -> [u8; 5]
     requires { ⌜ (now table ≡ catalogue) × (r ≤ 5) × (c ≤ 2) × Begins (servingRows r c) (now rows) × (number < length (lists r c)) ⌝ }
-    ensures { λ q. ⌜ q ≡ padded (getD (lists r c) number []) ⌝ }
+    ensures { λ q. ⌜ q ≡ padded 5 (getD (lists r c) number []) ⌝ }
 {
     let n = wide16(rows[number]);
     let mut labels = [0u8; 5];

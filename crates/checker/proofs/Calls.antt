@@ -15,7 +15,7 @@ use Rattle.classes.specs.Classes.{labels, lists, index, Legal, contents}
 use Rattle.classes.specs.Matrix.{matrix, classMatrix, classOfMatrix}
 use Rattle.classes.proofs.Catalogue.{index-mem}
 use Rattle.classes.proofs.Contents.{contents-length}
-use Rattle.catalogue.specs.Arrays.{padded, written}
+use Rattle.lists.specs.Arrays.{padded, written}
 use Rattle.catalogue.specs.Matrices.{found}
 use Rattle.catalogue.specs.declared.Found.the-variants.{Class, NoClass}
 use Rattle.catalogue.proofs.Buffers.{padded-front}

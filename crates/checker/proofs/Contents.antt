@@ -15,8 +15,8 @@ use Rattle.forms.specs.TableForm.{cell, automatonOf}
 use Rattle.forms.specs.Readable.{Readable}
 use Rattle.forms.proofs.Forms.{form-limits, constant-count}
 use Rattle.forms.specs.ClassLabels.{Lent}
-use Rattle.runs.proofs.Laws.{constants-are}
-use Rattle.catalogue.specs.Arrays.{padded}
+use Rattle.concretization.proofs.SmallestMoves.{constants-are}
+use Rattle.lists.specs.Arrays.{padded}
 use Rattle.opening.proofs.Labels.{counts-few}
 use Rattle.checker.specs.Asking.{classContents}
 

@@ -18,7 +18,7 @@ use Rattle.reader.specs.declared.Reply.the-variants.{Accepted, Refused}
 use Rattle.forms.specs.Readable.{Readable}
 use Rattle.catalogue.specs.Serving.{labelRows}
 use Rattle.catalogue.proofs.LabelRows.{label-rows-small, label-rows-length}
-use Rattle.catalogue.proofs.Buffers.{written-entry, written-length}
+use Rattle.lists.proofs.Arrays.{written-entry, written-length}
 use Rattle.opening.specs.Opening.{openTable, labelsOf, classLabels}
 use Rattle.opening.proofs.Opened.{opened-readable}
 use Rattle.opening.proofs.Labels.{counts-few, labels-held, classes-most}

@@ -9,7 +9,7 @@ use borrow.Author.Tests.{leb-true, le-leb, lt-leb, eqb-true, eqb-false, eq-eqb, 
 use lib.Dec.{eqb, leb, ltb}
 use lib.ListN.{length, getD, take}
 use Rattle.classes.specs.Renaming.{rising}
-use Rattle.catalogue.specs.Arrays.{written}
+use Rattle.lists.specs.Arrays.{written}
 use Rattle.checker.specs.Refusals.{firstOf, buffer, size, order, range, numberUnless, doneUnless, writtenUnless}
 use Rattle.checker.specs.declared.Number.the-variants.{Refused as noNumber, Is}
 use Rattle.checker.specs.declared.Written.the-variants.{Refused as notWritten, Done}

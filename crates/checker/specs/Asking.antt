@@ -11,7 +11,7 @@ use Rattle.automata.specs.Configurations.{classes}
 use Rattle.automata.specs.Answers.{failing}
 use Rattle.forms.specs.TableForm.{automatonOf}
 use Rattle.forms.specs.QuestionForm.{rowsOf}
-use Rattle.catalogue.specs.Arrays.{padded}
+use Rattle.lists.specs.Arrays.{padded}
 use Rattle.formulas.specs.Rows.{shown}
 use Rattle.checker.specs.Files.{Files}
 use Rattle.checker.specs.Files.Files.{read, turned}

@@ -6,7 +6,7 @@ use mathlib.Core.List.{List, [], _∷_}
 use mathlib.Core.Option.{Option, none, some}
 use lib.Dec.{eqb, leb, ltb}
 use Rattle.classes.specs.Renaming.{rising}
-use Rattle.catalogue.specs.Arrays.{written}
+use Rattle.lists.specs.Arrays.{written}
 use Rattle.checker.specs.declared.Number.{Number}
 use Rattle.checker.specs.declared.Number.the-variants.{Refused as noNumber, Is}
 use Rattle.checker.specs.declared.Written.{Written}

@@ -5,7 +5,7 @@ ghost use Prim.Native.Nat.{_*_, _≤_, _<_};
 ghost use lib.ListN.{length, getD, take};
 ghost use Rattle.classes.specs.Classes.{lists};
 ghost use Rattle.classes.specs.Renaming.{rising};
-ghost use Rattle.catalogue.specs.Arrays.{padded, written};
+ghost use Rattle.lists.specs.Arrays.{padded, written};
 ghost use Rattle.checker.specs.Refusals.{firstOf, buffer, size, order, doneUnless};
 ghost use Rattle.checker.specs.Counts.{
   classCountReply,

@@ -6,7 +6,7 @@ ghost use Rattle.automata.specs.Configurations.{classes};
 ghost use Rattle.forms.specs.TableForm.{automatonOf};
 ghost use Rattle.forms.specs.Readable.{Readable};
 ghost use Rattle.forms.specs.ClassLabels.{Lent};
-ghost use Rattle.catalogue.specs.Arrays.{padded};
+ghost use Rattle.lists.specs.Arrays.{padded};
 ghost use Rattle.checker.specs.Asking.{classContents};
 
 pub(crate) fn wide(n: u32) -> usize

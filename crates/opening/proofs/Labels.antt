@@ -13,9 +13,9 @@ use Rattle.automata.specs.Configurations.{classes}
 use Rattle.forms.specs.TableForm.{cell, automatonOf}
 use Rattle.forms.specs.Readable.{Readable}
 use Rattle.forms.proofs.Forms.{constant-count, form-limits}
-use Rattle.catalogue.specs.Arrays.{written}
+use Rattle.lists.specs.Arrays.{written}
 use Rattle.catalogue.specs.Serving.{labelRows}
-use Rattle.catalogue.proofs.Buffers.{written-begins, written-length, begins-entry}
+use Rattle.lists.proofs.Arrays.{begins-entry, written-begins, written-length}
 use Rattle.catalogue.proofs.LabelRows.{label-rows-length, label-rows-entry}
 use Rattle.forms.specs.ClassLabels.{Labels}
 

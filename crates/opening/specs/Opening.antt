@@ -7,7 +7,7 @@ use lib.ListN.{replicate}
 use Rattle.forms.specs.TableForm.{cell, automatonOf}
 use Rattle.reader.specs.Table.{Outcome, readTable}
 use Rattle.reader.specs.Table.Outcome.{table, refused}
-use Rattle.catalogue.specs.Arrays.{written}
+use Rattle.lists.specs.Arrays.{written}
 use Rattle.catalogue.specs.Serving.{labelRows}
 use Rattle.conditions.specs.Startable.{startable}
 

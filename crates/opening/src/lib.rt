@@ -6,7 +6,7 @@ ghost use lib.ListN.{length};
 ghost use Rattle.forms.specs.TableForm.{cell, automatonOf};
 ghost use Rattle.reader.specs.Reply.{replyOf, formOf};
 ghost use Rattle.forms.specs.Readable.{Readable};
-ghost use Rattle.catalogue.specs.Arrays.{written};
+ghost use Rattle.lists.specs.Arrays.{written};
 ghost use Rattle.catalogue.specs.Serving.{labelRows};
 ghost use Rattle.conditions.specs.Startable.{startable};
 ghost use Rattle.opening.specs.Opening.{openTable, labelsOf};

@@ -10,7 +10,7 @@ use native.Mathlib.Omega.{arith}
 use lib.ListN.{length, getD, set, take, drop, length-set, length-drop}
 use lib.Seq.{take-all, take-suc, take-suc-set}
 use Rattle.columns.specs.Columns.{columnOf, withField}
-use Rattle.witness.proofs.Pasting.{five-numbers}
+use Rattle.labelling.proofs.Noted.{five-numbers}
 use Rattle.printout.specs.Text.{field, fields, line, shown, moments}
 
 -- a byte more

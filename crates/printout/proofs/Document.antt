@@ -26,7 +26,8 @@ use Rattle.lists.specs.Arrays.{padded}
 use Rattle.forms.proofs.Forms.{Limits, form-limits}
 use Rattle.opening.specs.Opening.{openTable}
 use Rattle.opening.proofs.Opened.{opened-readable}
-use Rattle.witness.specs.Printed.{slotted, linesFrom, withLines, reachedCount, momentNumbers}
+use Rattle.concretization.specs.RunLines.{linesFrom, momentNumbers, slotted}
+use Rattle.witness.specs.Printed.{withLines, reachedCount}
 use Rattle.witness.proofs.Judged.{printed-right}
 use Rattle.checker.specs.Files.{Files, withTarget, afterTable, reachFiles}
 use Rattle.checker.specs.Files.Files.{read}

@@ -7,7 +7,8 @@ use Rattle.graphs.specs.Search.{Walk, steps}
 use Rattle.automata.specs.Automaton.{Automaton}
 use Rattle.automata.specs.Runs.{Move}
 use Rattle.moves.specs.Runs.{walkContents, walkMoves}
-use Rattle.witness.specs.Printed.{reachedCount, momentNumbers}
+use Rattle.concretization.specs.RunLines.{momentNumbers}
+use Rattle.witness.specs.Printed.{reachedCount}
 use Rattle.printout.specs.Text.{line}
 
 -- the moments from k on

@@ -1,6 +1,6 @@
 -- What is printed is right: the run is judged good by the replayer, it is a shortest to the target, and it fits the buffers; where none is printed, no run reaches the target.
 -- Assumes nothing.
-use Prim.Native.Nat.{ℕ, suc, _+_, _*_, _<_}
+use Prim.Native.Nat.{ℕ, _+_, _*_, _<_}
 use mathlib.Core.List.{List}
 use mathlib.Core.Option.{none, some}
 use mathlib.Core.Path.{_≡_, ap, _∙_, subst}
@@ -19,8 +19,8 @@ use Rattle.moves.proofs.Limits.{limited-roomy}
 use Rattle.replay.specs.Judge.{judgeFlat, flatRun}
 use Rattle.replay.specs.declared.Verdict.the-variants.{Good}
 use Rattle.replay.proofs.Flat.{run-good}
-use Rattle.witness.specs.Printed.{runLines, withRun, withLines}
-use Rattle.witness.proofs.Pasting.{run-length, lines-length}
+use Rattle.witness.specs.Printed.{withRun}
+use Rattle.concretization.proofs.Pasting.{run-length}
 use Rattle.witness.proofs.Finding.{few-steps}
 
 -- what is said of the run along a walk
@@ -47,14 +47,8 @@ module _ (a : Automaton) (wf : T (wellFormed a)) (lim : T (limited a)) (g : Targ
   pub never-right : nearestTo a g ≡ none → meaning.Never a g
   never-right e = subst (RunAnswer 15 a g) e answer
 
-  -- the run and its lines are what stands in front of the buffers
-  module _ (w : Walk) (e : nearestTo a g ≡ some w) (l : List ℕ) where
-    pub run-front : take (5 + 9 * steps w) (withRun a (some w) l) ≡ flatRun (walkContents a w) (walkMoves 15 a w)
-    run-front =
-        take-at (flatRun (walkContents a w) (walkMoves 15 a w)) (drop (5 + 9 * steps w) l) (5 + 9 * steps w)
-        (run-length (walkContents a w) (walkMoves 15 a w) ∙ ap (λ n. 5 + 9 * n) (printed-right w e .count))
-
-    pub lines-front : take (12 * suc (steps w)) (withLines a (some w) l) ≡ runLines a (walkContents a w) (walkMoves 15 a w)
-    lines-front =
-        take-at (runLines a (walkContents a w) (walkMoves 15 a w)) (drop (12 * suc (steps w)) l) (12 * suc (steps w))
-        (lines-length a (walkContents a w) (walkMoves 15 a w) ∙ ap (λ n. 12 * suc n) (printed-right w e .count))
+  -- the run is what stands in front of the buffer
+  pub run-front : (w : Walk) (e : nearestTo a g ≡ some w) (l : List ℕ) → take (5 + 9 * steps w) (withRun a (some w) l) ≡ flatRun (walkContents a w) (walkMoves 15 a w)
+  run-front w e l =
+      take-at (flatRun (walkContents a w) (walkMoves 15 a w)) (drop (5 + 9 * steps w) l) (5 + 9 * steps w)
+      (run-length (walkContents a w) (walkMoves 15 a w) ∙ ap (λ n. 5 + 9 * n) (printed-right w e .count))

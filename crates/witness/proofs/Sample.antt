@@ -20,7 +20,8 @@ use Rattle.reach.proofs.Queue.{counted}
 use Rattle.reach.proofs.Graph.{graph-fits}
 use Rattle.replay.specs.Judge.{flatRun}
 use Rattle.witness.specs.declared.Answer.the-variants.{Reached}
-use Rattle.witness.specs.Printed.{runLines, reachedCount, answerOf}
+use Rattle.concretization.specs.RunLines.{runLines}
+use Rattle.witness.specs.Printed.{reachedCount, answerOf}
 
 abbrev walk : Walk
 walk = start 0 ▸ 7 ▸ 14

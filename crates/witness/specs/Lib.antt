@@ -1,3 +1,2 @@
 -- What the contracts of the printed run cite.
 pub mod Printed
-pub mod Writing

@@ -6,7 +6,7 @@ use lib.ListN.{length}
 use Rattle.classes.specs.Classes.{lists}
 use Rattle.automata.specs.Configurations.{classes}
 use Rattle.forms.specs.TableForm.{automatonOf}
-use Rattle.catalogue.specs.Arrays.{written}
+use Rattle.lists.specs.Arrays.{written}
 use Rattle.catalogue.specs.Serving.{labelRows}
 use Rattle.opening.proofs.Labels.{classes-are, counts-few, labels-held}
 use Rattle.opening.proofs.classes_start.Statement.{statement}

@@ -2,7 +2,7 @@
 use native.Mathlib.Omega.{arith}
 use borrow.Author.Needs.{needs}
 use Rattle.catalogue.specs.Serving.{servingRows}
-use Rattle.catalogue.proofs.Buffers.{written-begins}
+use Rattle.lists.proofs.Arrays.{written-begins}
 use Rattle.opening.proofs.Labels.{classes-most}
 use Rattle.opening.proofs.fill_classes.Statement.{statement}
 use Rattle.opening.proofs.fill_classes.Tie as tie

@@ -2,12 +2,12 @@
 use mathlib.Core.Path.{_∙_}
 use native.Mathlib.Omega.{arith}
 use borrow.Author.Needs.{needs}
-use Rattle.catalogue.proofs.MatrixRows.{marks}
+use Rattle.labelling.proofs.Noted.{marks-take}
 use Rattle.catalogue.proofs.matrices.class_matrix.Statement.{statement}
 use Rattle.catalogue.proofs.matrices.class_matrix.Tie as tie
 
-identifiers-of-requires : tie.Need-identifiers-of-requires
-identifiers-of-requires c κs = search needs
+wide-labels-requires : tie.Need-wide-labels-requires
+wide-labels-requires c κs = search needs
 
 matrix-of-requires : tie.Need-matrix-of-requires
 matrix-of-requires c κs = search needs
@@ -19,8 +19,8 @@ returns : tie.Need-returns
 returns c =
     let a = c .before .before .before .before .before .before .args in
     c .before .before .matrix-of .ensures
-    ∙ rw (marks (a .c) (omega arith), c .before .before .before .before .identifiers-of .ensures)
+    ∙ rw (marks-take (a .c) (omega arith), c .before .before .before .before .wide-labels .ensures)
 
 pub class-matrix-spec : {M : Type 1} → statement M
 class-matrix-spec =
-    tie.close (tie.spec identifiers-of-requires matrix-of-requires same-length returns)
+    tie.close (tie.spec wide-labels-requires matrix-of-requires same-length returns)

@@ -11,7 +11,8 @@ use Rattle.graphs.proofs.Lists.{eqList→eq, eqList-refl}
 use Rattle.classes.specs.Matrix.{matrix}
 use Rattle.catalogue.specs.Matrices.{found, valuationOf}
 use Rattle.catalogue.specs.declared.Found.the-variants.{Class}
-use Rattle.catalogue.proofs.MatrixRows.{square-fits, marks, valuation-length, valuation-front, matrix-front, class-found, class-missing}
+use Rattle.labelling.proofs.Noted.{marks-take}
+use Rattle.catalogue.proofs.MatrixRows.{square-fits, valuation-length, valuation-front, matrix-front, class-found, class-missing}
 use Rattle.catalogue.proofs.matrices.class_of_matrix.Statement.{statement}
 use Rattle.catalogue.proofs.matrices.class_of_matrix.Tie as tie
 
@@ -25,7 +26,7 @@ compared c =
     let o = c .before .before .before .matrix-of in
     c .same-entries .ensures
     ∙ ap (λ l. eqList l (a .matrix .now))
-    (matrix-front (a .r) (a .c) (a .matrix .now) (c .before .before .before .before .before .valuation-of .result) (c .before .before .before .before .before .valuation-of .ensures)
+    (matrix-front (a .r) (a .c) (p .0) (a .matrix .now) (c .before .before .before .before .before .valuation-of .result) (c .before .before .before .before .before .valuation-of .ensures)
     (o .last .1 .1 .1 .1 .0) (replicate 25 0) (p .1) (p .2) (o .ensures))
 
 valuation-of-requires : tie.Need-valuation-of-requires
@@ -55,7 +56,7 @@ returns c =
     let u : List ℕ = valuationOf (a .r) (a .matrix .now) in
     let same : matrix (upFrom 1 (a .c)) u ≡ a .matrix .now =
     eqList→eq (matrix (upFrom 1 (a .c)) u) (a .matrix .now) (subst⁻¹ T (sym (compared (c .before .before)) ∙ c .before .if1 .taken) tt) in
-    ap Class (c .class-of .ensures ∙ rw (marks (a .c) (p .1), valuation-front (a .r) (a .c) (a .matrix .now) (v .result) (v .ensures)))
+    ap Class (c .class-of .ensures ∙ rw (marks-take (a .c) (p .1), valuation-front (a .r) (a .c) (p .0) (a .matrix .now) (v .result) (v .ensures)))
     ∙ sym (ap (found (a .r) (a .c)) (class-found (a .r) (a .c) (a .matrix .now) u (valuation-length (a .r) (a .matrix .now)) same))
 
 returns-2 : tie.Need-returns-2

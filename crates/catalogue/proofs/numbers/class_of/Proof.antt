@@ -18,7 +18,7 @@ front c =
     let five : length (a .contents) ≡ 5 = search needs in
     ap (take (a .r)) (c .labels-of .ensures)
     ∙ padded-front (labels (take (a .c) (a .constants)) (take (a .r) (a .contents))) (a .r)
-    (labels-length (take (a .c) (a .constants)) (take (a .r) (a .contents)) ∙ length-take-le (a .r) (a .contents) (omega arith))
+    (labels-length (take (a .c) (a .constants)) (take (a .r) (a .contents)) ∙ length-take-le (a .r) (a .contents) (omega arith)) (omega arith)
 
 labels-of-requires : tie.Need-labels-of-requires
 labels-of-requires c κs = search needs

@@ -1,117 +1,35 @@
--- `scan::contents_of` meets its contract. The loop's invariant is `Scanned`, as in `labels_of`.
-use Prim.Native.Nat.{_-_, _≤_}
-use mathlib.Core.Path.{_≡_, refl, ap, _∙_}
+-- `scan::contents_of` meets its contract.
+-- Assumes nothing.
+use mathlib.Core.Path.{_≡_, ap, _∙_}
 use native.Mathlib.Omega.{arith}
-use borrow.Author.Needs.{needs}
-use lib.ListN.{length, getD, take}
+use lib.ListN.{length, take}
 use lib.Seq.{length-take-le, getD-take}
+use Rattle.lists.specs.Arrays.{padded}
 use Rattle.classes.specs.Classes.{identifiers}
-use Rattle.classes.proofs.Identifiers.{identifiers-length}
-use Rattle.catalogue.specs.Arrays.{padded}
-use Rattle.catalogue.proofs.Scanned.{Scanned, scanned-first, scanned-more, scanned-ended, identifiers-entry, legal-positive}
+use Rattle.labelling.proofs.Noted.{constants-tidy, constants-known}
+use Rattle.catalogue.proofs.Complete.{legal-positive}
+use borrow.Author.Needs.{needs}
 use Rattle.catalogue.proofs.scan.contents_of.Statement.{statement}
 use Rattle.catalogue.proofs.scan.contents_of.Tie as tie
 
-abbrev Inv-loop : tie.InvT-loop
-Inv-loop c r labels seen₀ count₀ list₀ i₀ seen count list i =
-    (length (take c seen₀) ≡ c) × (length (take r labels) ≡ r) × Scanned identifiers (take c seen₀) (take r labels) seen count list i
+constants-seen-requires : tie.Need-constants-seen-requires
+constants-seen-requires c κs = search needs
 
-abbrev μ-loop : tie.MeasureT-loop
-μ-loop c r labels seen₀ count₀ list₀ i₀ seen count list i = r - i
-
-seen-first-requires : tie.Need-seen-first-requires Inv-loop μ-loop
-seen-first-requires c κs = search needs
-
-loop-holds : tie.Need-loop-holds Inv-loop μ-loop
-loop-holds c =
-    let a = c .before .args in
-    let s = c .seen-first in
-    let five : length (a .t3) ≡ 5 = search needs in
-    let lc = length-take-le (a .c) (s .result) (omega (arith, s .ensures .0)) in
-    let lr = length-take-le (a .r) (a .t3) (omega arith) in
-    (lc, lr, scanned-first identifiers identifiers-length (take (a .c) (s .result)) (take (a .r) (a .t3)) (omega arith) (s .result) (a .c) (s .ensures .0) refl lc)
-
-slice-aggregate-identifier-of : tie.Need-slice-aggregate-identifier-of Inv-loop μ-loop
-slice-aggregate-identifier-of c = search needs
-
-array-read-identifier-of : tie.Need-array-read-identifier-of Inv-loop μ-loop
-array-read-identifier-of c = search needs
-
-identifier-of-requires : tie.Need-identifier-of-requires Inv-loop μ-loop
-identifier-of-requires c κs =
-    let a = c .before .before .before .before .args in
-    let l = c .before .before .loop in
-    let positive : 1 ≤ getD (a .t3) (l .i) 0 =
-    rw (← getD-take (a .r) (a .t3) (l .i) 0 (omega arith)) (legal-positive (a .c) (take (a .r) (a .t3)) (c .before .before .before .before .pre .2) (l .i) (omega (arith, l .inv .1))) in
-    search needs
-
-slice-aggregate-position-of : tie.Need-slice-aggregate-position-of Inv-loop μ-loop
-slice-aggregate-position-of c = search needs
-
-position-of-requires : tie.Need-position-of-requires Inv-loop μ-loop
-position-of-requires c κs = search needs
-
-mul-list : tie.Need-mul-list Inv-loop μ-loop
-mul-list c = search needs
-
-array-write-list : tie.Need-array-write-list Inv-loop μ-loop
-array-write-list c = search needs
-
-mul-seen : tie.Need-mul-seen Inv-loop μ-loop
-mul-seen c = search needs
-
-array-write-seen : tie.Need-array-write-seen Inv-loop μ-loop
-array-write-seen c = search needs
-
-seen-count-requires : tie.Need-seen-count-requires Inv-loop μ-loop
-seen-count-requires c κs = search needs
-
-add-i : tie.Need-add-i Inv-loop μ-loop
-add-i c = search needs
-
-loop-less : tie.Need-loop-less Inv-loop μ-loop
-loop-less c = search needs
-
-loop-again : tie.Need-loop-again Inv-loop μ-loop
-loop-again c =
-    let a = c .before .before .before .before .before .before .before .before .args in
-    let l = c .before .before .before .before .before .before .loop in
-    let s = c .before .before .before .before .before .before .before .seen-first in
-    let q = l .inv in (
-      q .0,
-      q .1,
-      rw (c .seen-count .ensures, c .before .position-of .ensures .0, c .before .before .before .identifier-of .ensures)
-          (scanned-more identifiers identifiers-length (take (a .c) (s .result)) (take (a .r) (a .t3)) (omega arith) (l .seen) (l .count) (l .list) (l .i) (q .2) (omega arith)
-          _ _ (omega arith) (identifiers-entry (take (l .count) (l .seen)) (take (a .r) (a .t3)) (l .i) _ (omega arith) (getD-take (a .r) (a .t3) (l .i) 0 (omega arith)))),
+identifiers-of-requires : tie.Need-identifiers-of-requires
+identifiers-of-requires c κs =
+    let e = c .before in
+    let a = e .args in
+    let five : length (a .labels) ≡ 5 = search needs in (
+      constants-tidy (a .c) (a .constants) (e .pre .0) (c .constants-seen .ensures) 12 (omega arith),
+      e .pre .1,
+      (λ i h. rw (← getD-take (a .r) (a .labels) i 0 h) (legal-positive (a .c) (take (a .r) (a .labels)) (e .pre .2) i (omega (arith, length-take-le (a .r) (a .labels) (omega arith))))),
     )
 
-returns : tie.Need-returns Inv-loop μ-loop
+returns : tie.Need-returns
 returns c =
-    let a = c .before .before .before .args in
-    let l = c .before .loop in
-    let s = c .before .before .seen-first in
-    scanned-ended identifiers identifiers-length (take (a .c) (s .result)) (take (a .r) (a .t3)) (omega arith) (l .seen) (l .count) (l .list) (l .i) (l .inv .2) (omega arith)
-    ∙ ap (λ cs. padded (identifiers cs (take (a .r) (a .t3)))) (s .ensures .1)
+    let e = c .before .before in
+    let a = e .args in
+    c .identifiers-of .ensures ∙ ap (λ z. padded 5 (identifiers z (take (a .r) (a .labels)))) (constants-known (a .c) (a .constants) (e .pre .0) (c .before .constants-seen .ensures))
 
 pub contents-of-spec : {M : Type 1} → statement M
-contents-of-spec =
-    tie.close
-    (tie.spec
-    Inv-loop
-    μ-loop
-    seen-first-requires
-    loop-holds
-    slice-aggregate-identifier-of
-    array-read-identifier-of
-    identifier-of-requires
-    slice-aggregate-position-of
-    position-of-requires
-    mul-list
-    array-write-list
-    mul-seen
-    array-write-seen
-    seen-count-requires
-    add-i
-    loop-less
-    loop-again
-    returns)
+contents-of-spec = tie.close (tie.spec constants-seen-requires identifiers-of-requires returns)

@@ -1,7 +1,7 @@
 -- `counts::class_list` meets its contract.
 -- Assumes nothing.
 use borrow.Author.Needs.{needs}
-use Rattle.catalogue.proofs.Buffers.{written-begins}
+use Rattle.lists.proofs.Arrays.{written-begins}
 use Rattle.catalogue.specs.Serving.{servingRows}
 use Rattle.opening.proofs.Labels.{classes-most}
 use Rattle.checker.proofs.counts.class_list.Statement.{statement}

@@ -3,7 +3,7 @@ use mathlib.Core.Path.{sym, _∙_}
 use Rattle.automata.specs.Questions.{question}
 use Rattle.forms.specs.TableForm.{automatonOf}
 use Rattle.forms.specs.QuestionForm.{rowsOf}
-use Rattle.runs.proofs.Laws.{registers-are}
+use Rattle.concretization.proofs.SmallestMoves.{registers-are}
 use native.Mathlib.Omega.{arith}
 use Rattle.checker.proofs.Asked.{ready, class-labels, lent-as, class-below, yes-reply, yes-contents, no-reply, no-contents}
 use borrow.Author.Needs.{needs}

@@ -1,0 +1,96 @@
+-- `along::write_run` meets its contract.
+-- Assumes nothing.
+use mathlib.Core.Path.{_≡_}
+use native.Mathlib.Omega.{arith}
+use Rattle.automata.specs.Runs.{initial}
+use Rattle.forms.specs.TableForm.{automatonOf}
+use Rattle.concretization.specs.PathRuns.{standOf, pathContents}
+use Rattle.concretization.proofs.RunsAlong.{going-first, run-done, lines-done}
+use borrow.Author.Needs.{needs}
+use Rattle.concretization.proofs.along.write_run.Statement.{statement}
+use Rattle.concretization.proofs.along.write_run.Tie as tie
+
+-- where the run stands at first
+stands : (c : tie.After-start) → (let e = c .before .before .before .before .before .before .before .before .before .before .before .before .before in
+    record { place = c .start .result; contents = c .before .before .before .before .before .before .contents-at .result } ≡ standOf (initial (automatonOf (e .args .form .now)) (pathContents (automatonOf (e .args .form .now)) (e .args .path .now))))
+stands c = λ i. record { place = c .start .ensures .0 i; contents = c .before .before .before .before .before .before .contents-at .ensures i }
+
+shared-slice-read-contents-at : tie.Need-shared-slice-read-contents-at
+shared-slice-read-contents-at c = search needs
+
+cast-contents-at : tie.Need-cast-contents-at
+cast-contents-at c = omega (arith, c .shared-slice-known4 .given 0)
+
+contents-at-requires : tie.Need-contents-at-requires
+contents-at-requires c κs = let e = (c .before .before .before .before .before .before) in (e .pre .0, e .pre .1 .low 0 (omega arith))
+
+slice-aggregate-put : tie.Need-slice-aggregate-put
+slice-aggregate-put c = search needs
+
+put-requires : tie.Need-put-requires
+put-requires c κs = search needs
+
+start-requires : tie.Need-start-requires
+start-requires c κs = c .before .before .before .before .before .before .before .before .before .before .before .before .pre .0 .readable
+
+cast-place : tie.Need-cast-place
+cast-place c = omega (arith, c .start .ensures .2)
+
+registers-requires : tie.Need-registers-requires
+registers-requires c κs = c .before .before .before .before .before .before .before .before .before .before .before .before .before .pre .0 .readable
+
+line-requires : tie.Need-line-requires
+line-requires c κs = (c .registers .ensures .1, omega arith)
+
+slice-aggregate-put-2 : tie.Need-slice-aggregate-put-2
+slice-aggregate-put-2 c = search needs
+
+put-requires-2 : tie.Need-put-requires-2
+put-requires-2 c κs = search needs
+
+write-moves-requires : tie.Need-write-moves-requires
+write-moves-requires c κs =
+    let e = c .before .before .before .before .before .before .before .before .before .before .before .before .before .before .before .before .before .before .before .before .before .before in (
+      e .pre .0,
+      going-first (e .args .form .now) (e .pre .0 .readable) (e .args .path .now) (e .args .steps) (e .pre .1) _ (stands (c .before .before .before .before .before .before .before .before .before)),
+      e .pre .2,
+      omega (arith, e .pre .3, c .before .before .before .before .before .before .before .before .before .before .before .before .put .kept),
+      omega (arith, e .pre .4, c .before .before .before .before .put2 .kept),
+    )
+
+same-length : tie.Need-same-length
+same-length c = search needs
+
+same-length-2 : tie.Need-same-length-2
+same-length-2 c = search needs
+
+returns : tie.Need-returns
+returns c =
+    let k = c .before .before .before .before .before .before .before .before .before .before .before .before .before .before in
+    let e = c .before .before .before .before .before .before .before .before .before .before .before .before .before .before .before .before .before .before .before .before .before .before .before .before .before .before .before in
+    let t = e .args .form .now in
+    let w = c .before .before .before .before .write-moves .ensures in
+    let given = c .before .before .before .before .before .before .before .before .before .before .before .before .before .before .before .before .before .before .before .before .contents-at .ensures in (
+      run-done t (e .pre .0 .readable) (e .args .path .now) (e .args .steps) (e .pre .1) _ (stands k) _ given _ _ _ (c .before .before .before .before .before .before .before .before .before .before .before .before .before .before .before .before .before .put .ensures) (w .0),
+      lines-done t (e .pre .0 .readable) (e .args .path .now) (e .args .steps) (e .pre .1) _ (stands k) _ given _ _ _ _ _ _ (c .before .before .before .before .before .before .before .before .before .before .before .before .before .registers .ensures .0) (k .start .ensures .0) (c .before .before .before .before .before .before .before .before .before .before .before .before .line .ensures) (c .before .before .before .before .before .before .before .before .before .put2 .ensures) (w .1),
+    )
+
+pub write-run-spec : {M : Type 1} → statement M
+write-run-spec =
+    tie.close
+    (tie.spec
+    shared-slice-read-contents-at
+    cast-contents-at
+    contents-at-requires
+    slice-aggregate-put
+    put-requires
+    start-requires
+    cast-place
+    registers-requires
+    line-requires
+    slice-aggregate-put-2
+    put-requires-2
+    write-moves-requires
+    same-length
+    same-length-2
+    returns)

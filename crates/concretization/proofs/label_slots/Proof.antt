@@ -1,0 +1,19 @@
+-- `concretization::label_slots` meets its contract.
+-- Assumes nothing.
+use mathlib.Core.Path.{ap, _∙_}
+use Rattle.concretization.specs.Parameters.{labelSlots}
+use borrow.Author.Needs.{needs}
+use Rattle.concretization.proofs.label_slots.Statement.{statement}
+use Rattle.concretization.proofs.label_slots.Tie as tie
+
+wide-labels-requires : tie.Need-wide-labels-requires
+wide-labels-requires c κs = search needs
+
+slots-requires : tie.Need-slots-requires
+slots-requires c κs = search needs
+
+returns : tie.Need-returns
+returns c = c .slots .ensures ∙ ap labelSlots (c .before .wide-labels .ensures)
+
+pub label-slots-spec : {M : Type 1} → statement M
+label-slots-spec = tie.close (tie.spec wide-labels-requires slots-requires returns)

@@ -1,0 +1,81 @@
+use Prim.Native.Nat.{_-_, _≤_}
+use mathlib.Core.Path.{_≡_, refl, ap, _∙_}
+use native.Mathlib.Omega.{arith}
+use borrow.Author.Needs.{needs}
+use Rattle.lists.specs.Arrays.{padded}
+use Rattle.forms.specs.Slots.{valuesFrom}
+use Rattle.labelling.proofs.NotedTurns.{entry-more}
+use Rattle.concretization.proofs.SlotValues.{values-length, values-step}
+use Rattle.concretization.proofs.values_at.Statement.{statement}
+use Rattle.concretization.proofs.values_at.Tie as tie
+
+-- `concretization::values_at` meets its contract: the values in the first i slots are there.
+-- Assumes nothing.
+
+abbrev Inv-loop : tie.InvT-loop
+Inv-loop n vals slots values₀ i₀ list i = (i ≤ n) × (list ≡ padded 5 (valuesFrom vals slots 0 i))
+
+abbrev μ-loop : tie.MeasureT-loop
+μ-loop n vals slots values₀ i₀ list i = n - i
+
+loop-holds : tie.Need-loop-holds Inv-loop μ-loop
+unfolding padded
+loop-holds c = (omega arith, refl)
+
+array-read-j : tie.Need-array-read-j Inv-loop μ-loop
+array-read-j c = search needs
+
+cast-j : tie.Need-cast-j Inv-loop μ-loop
+cast-j c = omega (arith, c .before .before .pre .1 (c .before .loop .i))
+
+mul-values : tie.Need-mul-values Inv-loop μ-loop
+mul-values c = omega (arith, c .before .before .pre .1 (c .before .loop .i))
+
+array-read-values : tie.Need-array-read-values Inv-loop μ-loop
+array-read-values c = omega (arith, c .before .before .pre .1 (c .before .loop .i))
+
+mul-values-2 : tie.Need-mul-values-2 Inv-loop μ-loop
+mul-values-2 c = search needs
+
+array-write-values : tie.Need-array-write-values Inv-loop μ-loop
+array-write-values c = search needs
+
+add-i : tie.Need-add-i Inv-loop μ-loop
+add-i c = search needs
+
+loop-less : tie.Need-loop-less Inv-loop μ-loop
+loop-less c = search needs
+
+loop-again : tie.Need-loop-again Inv-loop μ-loop
+loop-again c =
+    let a = c .before .before .args in
+    let l = c .before .loop in
+    let u = c .loop-test .taken in (
+      omega (arith, u),
+      entry-more (valuesFrom (a .t1) (a .t2) 0 (l .i)) (l .i) _ (l .inv .1) (values-length (a .t1) (a .t2) 0 (l .i)) (omega (arith, u, c .before .before .pre .0)) ∙ ap (padded 5) (values-step (a .t1) (a .t2) (l .i)),
+    )
+
+returns : tie.Need-returns Inv-loop μ-loop
+returns c =
+    let a = c .before .before .args in
+    let l = c .before .loop in
+    let z : l .i ≡ a .n = omega (arith, l .inv .0, c .loop-test .left) in
+    l .inv .1 ∙ ap (λ k. padded 5 (valuesFrom (a .t1) (a .t2) 0 k)) z
+
+pub values-at-spec : {M : Type 1} → statement M
+values-at-spec =
+    tie.close
+    (tie.spec
+    Inv-loop
+    μ-loop
+    loop-holds
+    array-read-j
+    cast-j
+    mul-values
+    array-read-values
+    mul-values-2
+    array-write-values
+    add-i
+    loop-less
+    loop-again
+    returns)

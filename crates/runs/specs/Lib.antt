@@ -1,4 +1,0 @@
--- What the contracts of the printed moves cite.
-pub mod Noting
-pub mod Seeking
-pub mod Asking
