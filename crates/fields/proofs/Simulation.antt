@@ -2,18 +2,18 @@
 -- Assumes nothing.
 use Prim.Native.Nat.{ℕ, zero, suc, _+_, _*_, _-_, _/_, _≤_, _<_}
 use mathlib.Core.Path.{_≡_, refl, sym, _∙_, ap}
-use mathlib.Core.Logic.{_⊎_, inl, inr, ⊎-elim}
+use mathlib.Core.Logic.{_⊎_, inl, inr}
 use mathlib.Core.List.{List, [], _∷_, _++_, append-assoc, append-nil}
 use mathlib.Core.Bool.{Bool, true, false, cond}
 use mathlib.Core.Option.{Option, some, none}
 use lib.ListN.{length, set, replicate, length-append}
 use lib.Seq.{set-append-seam}
-use lib.Dec.{leb, ltb, eqb}
-use borrow.Author.Tests.{lt-ltb, le-ltb, le-leb, lt-leb, eq-eqb, ne-eqb, leb-true}
+use lib.Dec.{leb, eqb}
+use borrow.Author.Tests.{lt-ltb, le-ltb, le-leb, lt-leb, ne-eqb, leb-true}
 use native.Mathlib.Omega.{arith}
 use native.Mathlib.Nat.{zero-add}
 use Rattle.fields.specs.Format.{glyphOf, onDigit, digitsFrom, onField, field, both, fields, padded}
-use Rattle.fields.specs.Scan.{blank, spoilt, pushed, digit, space, on, scan, closed, scans, numbers, lineOf}
+use Rattle.fields.specs.Scan.{blank, spoilt, pushed, digit, on, closed, scans, numbers, lineOf}
 use Rattle.fields.specs.declared.Glyph.{Glyph}
 use Rattle.fields.specs.declared.Glyph.the-variants.{Blank, Digit, Other}
 use Rattle.fields.specs.declared.Line.{Line}
@@ -27,7 +27,7 @@ done fs none = spoilt
 done fs (some v) = numbers (fs ++ (v ∷ []))
 
 -- a number before n further digits is below this
-abbrev room : ℕ → ℕ
+abbrev pub room : ℕ → ℕ
 room zero = 1000000
 room (suc n) = room n / 10
 
@@ -60,7 +60,7 @@ low false false r b d h e = let z : _≡_ {A = ℕ} 0 1 = cc in omega arith
 low false true false b d h e = let z : _≡_ {A = ℕ} 0 1 = cc in omega arith
 low false true true b d h e = let z : b - 48 ≡ d = cc in omega (arith, leb-true b 57 h)
 
-digit-low : (b d : ℕ) → glyphOf b ≡ Digit d → d ≤ 9
+pub digit-low : (b d : ℕ) → glyphOf b ≡ Digit d → d ≤ 9
 unfolding glyphOf
 digit-low b d e = low (eqb b 32) (leb 48 b) (leb b 57) b d refl e
 

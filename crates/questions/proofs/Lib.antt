@@ -1,6 +1,5 @@
 -- The theorems that other crates cite.
-pub mod Judged
-pub mod Simulation
+pub mod RowShapes
 pub mod Outcomes
 pub mod Fits
 pub mod Sample

@@ -1,5 +1,5 @@
--- What the contracts of the reader of questions cite.
-pub mod Rules
+-- What the contracts of the reader of questions cite. Rules, Question and Reply are to be believed; Rows has the shape of the code and is not.
+pub mod QuestionRules
 pub mod Question
-pub mod Reply
-pub mod Machine
+pub mod QuestionReply
+pub mod RowsRead

@@ -1,16 +1,18 @@
-// The reader of questions: the rules for a row, and a machine that reads the bytes one at a time.
+// The reader of questions: the rules for a row, and the loop over the bytes.
 ghost use mathlib.Core.Path.{_≡_};
-ghost use mathlib.Core.List.{List};
-ghost use Prim.Native.Nat.{ℕ, _^_, _≤_};
+ghost use Prim.Native.Nat.{_≤_};
 ghost use lib.ListN.{length, set};
+ghost use Rattle.fields.specs.Machine.{between, judgeRead, ended, fed, run};
 ghost use Rattle.forms.specs.Shapes.{useOf};
-ghost use Rattle.questions.specs.Rules.{judgeNumber, judgeField, judgeRow};
-ghost use Rattle.forms.specs.QuestionForm.{row, noRows, put};
-ghost use Rattle.questions.specs.Question.{counts, readQuestion};
-ghost use Rattle.questions.specs.Reply.{replyOf, formOf};
-ghost use Rattle.questions.specs.Machine.{judgeRead, between, afterLine, formAfterLine, fed, wrote, ending, run};
+ghost use Rattle.forms.specs.QuestionForm.{row, put};
+ghost use Rattle.questions.specs.QuestionRules.{judgeNumber, judgeField, judgeRow, judgeFields};
+ghost use Rattle.questions.specs.Question.{questionRules, readQuestion};
+ghost use Rattle.questions.specs.QuestionReply.{replyOf, formOf};
+ghost use Rattle.questions.specs.RowsRead.{reading};
 use fields::Line;
+use fields::Lines;
 use forms::Use;
+use refusals::Refusal;
 
 // How many registers, constants and locations the table has.
 pub struct Counts {
@@ -66,11 +68,13 @@ fn judge_row(c: Counts, n: u32, k: u32, a: u32, b: u32) -> u32
 
 // The refusal of a line, or 0.
 fn judge_line(c: Counts, n: u32, l: Line) -> u32
-    ensures { λ r. ⌜ r ≡ judgeRead c n l ⌝ }
+    ensures { λ r. ⌜ r ≡ judgeRead (judgeFields c n) l ⌝ }
 {
     let f = l.fields;
-    if l.good & (l.count == 3) {
-        return judge_row(c, n, f[0], f[1], f[2]);
+    if l.good {
+        if l.count == 3 {
+            return judge_row(c, n, f[0], f[1], f[2]);
+        }
     }
     2
 }
@@ -94,78 +98,40 @@ fn put_row(t: &mut [u32], n: u32, k: u32, a: u32, b: u32)
     store(t, i + 2, b);
 }
 
-// The state of the reader between two bytes.
-pub struct Reader {
-    // rows accepted so far
-    pub rows: u32,
-    // the line being read
-    pub line: Line,
-    // it has a byte
-    pub partial: bool,
-    // the refusal of an earlier line, or 0
-    pub number: u32,
-}
-
-// The state after n rows, between two lines.
-fn before_line(n: u32) -> Reader
-    ensures { λ r. ⌜ r ≡ between n ⌝ }
-{
-    let line = fields::empty();
-    Reader {
-        rows: n,
-        line: line,
-        partial: false,
-        number: 0,
-    }
-}
-
 // Byte 10.
-fn end_line(c: Counts, r: Reader, t: &mut [u32]) -> Reader
-    requires { ⌜ r .rows ≤ 1000 ⌝ }
-    ensures { λ q. ⌜ (q ≡ afterLine c r) × (now (t .exit) ≡ formAfterLine c r (now (t .entry))) ⌝ }
+fn end_line(c: Counts, r: Lines, t: &mut [u32]) -> Lines
+    requires { ⌜ r .lines ≤ 1000 ⌝ }
+    ensures { λ q. ⌜ reading q (now (t .exit)) ≡ ended (questionRules c) (reading r (now (t .entry))) ⌝ }
 {
-    let n = r.rows;
+    let n = r.lines;
     let l = fields::close(r.line);
     let x = judge_line(c, n, l);
+    let q = fields::with_line(r, x);
     if x == 0 {
         let f = l.fields;
         put_row(t, n, f[0], f[1], f[2]);
-        return before_line(n + 1);
+        return q;
     }
-    Reader {
-        rows: n,
-        line: l,
-        partial: false,
-        number: x,
-    }
+    q
 }
 
 // The next byte.
-fn feed(c: Counts, r: Reader, b: u8, t: &mut [u32]) -> Reader
-    requires { ⌜ r .rows ≤ 1000 ⌝ }
-    ensures { λ q. ⌜ (q ≡ fed c r b) × (now (t .exit) ≡ wrote c r (now (t .entry)) b) ⌝ }
+fn feed(c: Counts, r: Lines, b: u8, t: &mut [u32]) -> Lines
+    requires { ⌜ r .lines ≤ 1000 ⌝ }
+    ensures { λ q. ⌜ reading q (now (t .exit)) ≡ fed (questionRules c) (reading r (now (t .entry))) b ⌝ }
 {
-    if r.number == 0 {
-        if b == 10 {
-            return end_line(c, r, t);
-        }
-        let line = fields::step(r.line, b);
-        return Reader {
-            rows: r.rows,
-            line: line,
-            partial: true,
-            number: 0,
-        };
+    if fields::ends_line(r, b) {
+        return end_line(c, r, t);
     }
-    r
+    fields::with_byte(r, b)
 }
 
 // The whole file, byte after byte.
-fn read_bytes(c: Counts, s: &[u8], t: &mut [u32]) -> Reader
+fn read_bytes(c: Counts, s: &[u8], t: &mut [u32]) -> Lines
     requires { ⌜ length (now s) ≤ 608 ⌝ }
-    ensures { λ r. ⌜ (ending r (now (t .exit)) ≡ run c (between 0) (now (t .entry)) (now (s .entry))) × (r .rows ≤ 608) ⌝ }
+    ensures { λ r. ⌜ (reading r (now (t .exit)) ≡ run (questionRules c) (reading (between 0) (now (t .entry))) (now (s .entry))) × (r .lines ≤ 608) ⌝ }
 {
-    let mut r = before_line(0);
+    let mut r = fields::between_lines(0);
     let mut i = 0;
     while i < s.len() {
         r = feed(c, r, s[i], t);
@@ -177,36 +143,7 @@ fn read_bytes(c: Counts, s: &[u8], t: &mut [u32]) -> Reader
 pub enum Reply {
     // with the number of rows
     Accepted(usize),
-    Refused { number: u32, line: u32 },
-}
-
-// The reply at the end of a file.
-fn finish(r: Reader) -> Reply
-    requires { ⌜ r .rows ≤ 608 ⌝ }
-    ensures { λ q. ⌜ ((t : List ℕ) → q ≡ replyOf (ending r t)) ⌝ }
-{
-    let n = r.rows;
-    let line = n + 1;
-    let x = r.number;
-    if x == 0 {
-        if r.partial {
-            return Reply::Refused {
-                number: 2,
-                line: line,
-            };
-        }
-        if n == 0 {
-            return Reply::Refused {
-                number: 2,
-                line: line,
-            };
-        }
-        return Reply::Accepted(n as usize);
-    }
-    Reply::Refused {
-        number: x,
-        line: line,
-    }
+    Refused(Refusal),
 }
 
 // Reads a question to a table with these counts; a refusal leaves the rows as they are.
@@ -220,7 +157,11 @@ pub fn read_question(
     ensures { λ r. ⌜ (r ≡ replyOf (readQuestion registers constants locations (now (s .entry)))) × (now (rows .exit) ≡ formOf (readQuestion registers constants locations (now (s .entry))) (now (rows .entry))) ⌝ }
 {
     if 608 < s.len() {
-        return Reply::Refused { number: 1, line: 0 };
+        return Reply::Refused(Refusal {
+            number: 1,
+            file: 2,
+            line: 0,
+        });
     }
     let c = Counts {
         registers: registers,
@@ -229,9 +170,15 @@ pub fn read_question(
     };
     let mut form = [0u32; 96];
     let r = read_bytes(c, s, &mut form);
-    let reply = finish(r);
-    if let Reply::Accepted(_) = reply {
+    let n = r.lines;
+    let x = fields::at_end(r, 0 < n);
+    if x == 0 {
         *rows = form;
+        return Reply::Accepted(n as usize);
     }
-    reply
+    Reply::Refused(Refusal {
+        number: x,
+        file: 2,
+        line: n + 1,
+    })
 }

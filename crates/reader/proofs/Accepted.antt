@@ -9,7 +9,7 @@ use native.Mathlib.Omega.{arith}
 use lib.Dec.{leb, ltb, eqb}
 use Rattle.automata.specs.WellFormed.{inside}
 use Rattle.reader.specs.declared.Progress.{Progress}
-use Rattle.reader.specs.Rules.{hasTerm, expected, crowded, at, inRange, inOrder, judgeValues, judgeLine}
+use Rattle.reader.specs.TableRules.{hasTerm, expected, crowded, at, inRange, inOrder, judgeValues, judgeLine}
 
 -- i is one of 1 to n
 abbrev pub Inside : ℕ → ℕ → Type 0

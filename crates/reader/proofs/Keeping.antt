@@ -13,9 +13,10 @@ use lib.Dec.{leb, eqb}
 use lib.ListN.{length}
 use Rattle.reader.specs.declared.Progress.{Progress}
 use Rattle.forms.specs.TableForm.{cell}
-use Rattle.reader.specs.Rules.{at, home, put, advance, accepted, placed}
+use Rattle.reader.specs.TableRules.{at, home, put, advance, further, placed}
 use Rattle.reader.proofs.Accepted.{Inside, Stands, line1, line2, line3, line4, line5, line6, line7, line8}
-use Rattle.reader.proofs.Rows.{rowAt, six, length-put, kept, written, Low, low-put}
+use Rattle.fields.proofs.Digits.{Low}
+use Rattle.reader.proofs.Rows.{rowAt, six, length-put, kept, written, low-put}
 use Rattle.reader.proofs.Shape.{ConditionRow, HeadRow, AssignmentRow, Guarded, TransitionRows}
 
 -- The counters keep to the counts of line 1, and these to their limits
@@ -236,7 +237,7 @@ module _ (p : Progress) (f t : List ℕ) (s : Sound p t) where
   n : Counted p
   n = s .counted
 
-  constants-step : Stands p f → Constants (accepted p f t .ids) (accepted p f t .newest) (accepted p f t .last) (placed p f t)
+  constants-step : Stands p f → Constants (further p f t .ids) (further p f t .newest) (further p f t .last) (placed p f t)
   unfolding advance home
   constants-step (line1 k l b c d e g) =
       let z = n .none-yet l in
@@ -260,7 +261,7 @@ module _ (p : Progress) (f t : List ℕ) (s : Sound p t) where
   constants-step (line7 k h i j b c d) = rw k (constants-kept t (15 + 14 * p .transition + p .conds) f _ _ _ _ _ (omega arith) (omega arith) (s .constants))
   constants-step (line8 k h b c) = rw k (constants-kept t (22 + 14 * p .transition + at f 1) f _ _ _ _ _ (omega arith) (omega arith) (s .constants))
 
-  arities-step : Stands p f → (i : ℕ) → i < accepted p f t .acts → cell (placed p f t) (3 + i) 1 ≤ 3
+  arities-step : Stands p f → (i : ℕ) → i < further p f t .acts → cell (placed p f t) (3 + i) 1 ≤ 3
   unfolding advance home
   arities-step (line1 k l b c d e g) = let z = n .none-yet l in rw k (λ i h. absurd (omega arith))
   arities-step (line2 k h i j) = rw k (arities-kept t (1 + p .ids) f (p .acts) (λ x y. omega (arith, n .constants-low)) (s .arities))
@@ -276,7 +277,7 @@ module _ (p : Progress) (f t : List ℕ) (s : Sound p t) where
   arities-step (line7 k h i j b c d) = rw k (arities-kept t (15 + 14 * p .transition + p .conds) f (p .acts) (λ x y. omega (arith, n .acts-low, n .actions-low, n .late h)) (s .arities))
   arities-step (line8 k h b c) = rw k (arities-kept t (22 + 14 * p .transition + at f 1) f (p .acts) (λ x y. omega (arith, n .acts-low, n .actions-low)) (s .arities))
 
-  start-step : Stands p f → 4 ≤ accepted p f t .last → Inside (accepted p f t .locations) (cell (placed p f t) 19 1)
+  start-step : Stands p f → 4 ≤ further p f t .last → Inside (further p f t .locations) (cell (placed p f t) 19 1)
   unfolding advance home
   start-step (line1 k l b c d e g) = rw k (λ h. absurd (omega arith))
   start-step (line2 k h i j) = rw k (λ x. absurd (omega arith))
@@ -287,7 +288,7 @@ module _ (p : Progress) (f t : List ℕ) (s : Sound p t) where
   start-step (line7 k h i j b c d) = rw k (start-kept t (15 + 14 * p .transition + p .conds) f _ _ 7 (omega (arith, n .late h)) (λ x. omega arith) (s .start))
   start-step (line8 k h b c) = rw k (start-kept t (22 + 14 * p .transition + at f 1) f _ _ 8 (omega arith) (λ x. omega arith) (s .start))
 
-  starting-step : Stands p f → Starting (accepted p f t .registers) (accepted p f t .constants) (accepted p f t .conds) (accepted p f t .last) (placed p f t)
+  starting-step : Stands p f → Starting (further p f t .registers) (further p f t .constants) (further p f t .conds) (further p f t .last) (placed p f t)
   unfolding advance home
   starting-step (line1 k l b c d e g) =
       let z = n .unread (omega arith) in
@@ -320,8 +321,8 @@ module _ (p : Progress) (f t : List ℕ) (s : Sound p t) where
   starting-step (line7 k h i j b c d) = rw k (starting-kept t (15 + 14 * p .transition + p .conds) f _ _ _ _ _ 7 (λ x y. omega (arith, n .late h)) (λ x. absurd (omega arith)) (s .starting))
   starting-step (line8 k h b c) = rw k (starting-kept t (22 + 14 * p .transition + at f 1) f _ _ _ _ _ 8 (λ x y. omega (arith, n .late h)) (λ x. absurd (omega arith)) (s .starting))
 
-  moves-step : Stands p f → Moves (accepted p f t .registers) (accepted p f t .constants) (accepted p f t .locations) (accepted p f t .actions) (accepted p f t .transition) (accepted p f t .params)
-      (accepted p f t .conds) (accepted p f t .last) (placed p f t)
+  moves-step : Stands p f → Moves (further p f t .registers) (further p f t .constants) (further p f t .locations) (further p f t .actions) (further p f t .transition) (further p f t .params)
+      (further p f t .conds) (further p f t .last) (placed p f t)
   unfolding advance home
   moves-step (line1 k l b c d e g) = rw k (moves-early t 0 f _ _ _ _ _ _ _ _ _ _ _ _ _ _ 1 (n .early (omega arith) .1) (omega arith) (s .moves))
   moves-step (line2 k h i j) = rw k (moves-early t (1 + p .ids) f _ _ _ _ _ _ _ _ _ _ _ _ _ _ 2 (n .early (omega arith) .1) (omega (arith, n .constants-low)) (s .moves))
@@ -356,7 +357,7 @@ module _ (p : Progress) (f t : List ℕ) (s : Sound p t) where
       ))
       (s .moves))
 
-  pub sound-step : Low f → Stands p f → Sound (accepted p f t) (placed p f t)
+  pub sound-step : Low f → Stands p f → Sound (further p f t) (placed p f t)
   sound-step l h =
       record {
         counted = counted-step p f _ n h;
@@ -394,7 +395,7 @@ headed-kept r c l m n ids ids′ last last′ t row f h k s =
       passed = λ u. k u (s .passed);
     }
 
-pub headed-step : (p : Progress) (f t : List ℕ) → length t ≡ 5544 → HeadedBy p t → Stands p f → HeadedBy (accepted p f t) (placed p f t)
+pub headed-step : (p : Progress) (f t : List ℕ) → length t ≡ 5544 → HeadedBy p t → Stands p f → HeadedBy (further p f t) (placed p f t)
 unfolding advance home
 headed-step p f t z n (line1 k l b c d e g) =
     let w : 5 < length t = omega arith in

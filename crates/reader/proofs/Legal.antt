@@ -1,59 +1,42 @@
 -- The form of every table that is read has its shape (`legal`), and so has the form of every target (`legal-target`).
 -- Assumes nothing.
 use Prim.Native.Nat.{ℕ, zero, suc, _+_, _*_, _≤_, _<_}
-use mathlib.Core.Bool.{Bool, true, false, cond, and-eq-true-iff}
-use mathlib.Core.List.{List, [], _∷_}
-use mathlib.Core.Option.{Option, some, none}
+use mathlib.Core.Bool.{Bool, true, false, and-eq-true-iff}
+use mathlib.Core.List.{List}
 use mathlib.Core.Path.{_≡_, refl, subst}
 use borrow.Author.Tests.{leb-true, eqb-true, eqb-false}
 use native.Mathlib.Omega.{arith}
-use lib.Dec.{leb, ltb, eqb}
+use lib.Dec.{leb, eqb}
 use lib.ListN.{length, replicate, length-replicate}
-use Rattle.fields.specs.Format.{fields, padded, pieces}
-use Rattle.reader.specs.declared.Progress.{Progress}
+use Rattle.refusals.specs.Judged.{Judged, _then_}
+use Rattle.refusals.specs.Judged.Judged.{accepted, refused}
+use Rattle.fields.specs.Format.{padded}
+use Rattle.fields.specs.LineFiles.{readFile}
+use Rattle.fields.proofs.Digits.{Low, low-zeros}
+use Rattle.fields.proofs.LineFiles.{file-keeps}
 use Rattle.forms.specs.TableForm.{cell}
-use Rattle.reader.specs.Rules.{at, judgeLine, judge, advance, accepted, placed, atStart, beforeTarget, complete}
-use Rattle.reader.specs.Table.{judged, rowOf, readLines, blankForm, readFile, readTable, readTarget}
-use Rattle.reader.specs.Table.Outcome.{table, refused}
+use Rattle.reader.specs.declared.Progress.{Progress}
+use Rattle.reader.specs.TableRules.{at, advance, further, placed, atStart, beforeTarget, complete}
+use Rattle.reader.specs.Table.{Read, tableRules, blankForm, readForm, readTable, readTarget}
 use Rattle.reader.proofs.Accepted.{Stands, stands, line1, line2, line3, line4, line5, line6, line7, line8}
-use Rattle.reader.proofs.Rows.{Low, low-zeros, row-low}
 use Rattle.reader.proofs.Shape.{TransitionRows, Legal, LegalTarget}
 use Rattle.reader.proofs.Keeping.{Counted, Sound, sound-step, HeadedBy, headed-step}
 
--- What every accepted line keeps holds at the end of a file that is read
-
-no-table : {A : Type 0} (n l : ℕ) (u : List ℕ) → refused n l ≡ table u → A
-no-table n l u e = let z : _≡_ {A = ℕ} 0 1 = cc in absurd (omega arith)
-
-module _ (Q : Progress → List ℕ → Type 0) (step : (p : Progress) (f t : List ℕ) → Low f → Stands p f → Q p t → Q (accepted p f t) (placed p f t)) (u : List ℕ) where
-  at-end : (p : Progress) (t : List ℕ) → Q p t → (k : Bool) → complete p ≡ k → cond k (table t) (refused 2 (p .line + 1)) ≡ table u → (q : Progress) × Q q u × (complete q ≡ true)
-  at-end p t s false c e = no-table 2 (p .line + 1) u e
-  at-end p t s true c e = let same : t ≡ u = cc in (p, subst (Q p) same s, c)
-
-  lines-keep : (ls : List (List ℕ)) (p : Progress) (t l : List ℕ) → Q p t → readLines p t l ls ≡ table u → (q : Progress) × Q q u × (complete q ≡ true)
-  unfolding judge
-  lines-keep [] p t [] s e = at-end p t s (complete p) refl e
-  lines-keep [] p t (b ∷ l) s e = no-table 2 (p .line + 1) u e
-  lines-keep (m ∷ ls) p t l s e = by (fields 6 l) refl e (λ q v. lines-keep ls q v m)
+-- what every line that is accepted keeps holds at the end of a file that is read
+module _ (Q : Progress → List ℕ → Type 0) (step : (p : Progress) (f t : List ℕ) → Low f → Stands p f → Q p t → Q (further p f t) (placed p f t)) where
+  form-keeps : (file limit : ℕ) (p : Progress) (s u : List ℕ) → Q p blankForm → readForm file limit p s ≡ accepted u → (q : Progress) × Q q u × (complete q ≡ true)
+  form-keeps file limit p s u h e = by (readFile tableRules file limit begun s) refl e
     where
-      by : (o : Option (List ℕ)) → fields 6 l ≡ o → judged (judge p o) (readLines (accepted p (rowOf o) t) (placed p (rowOf o) t) m ls) (p .line + 1) ≡ table u
-          → ((q : Progress) (v : List ℕ) → Q q v → readLines q v m ls ≡ table u → (r : Progress) × Q r u × (complete r ≡ true)) → (r : Progress) × Q r u × (complete r ≡ true)
-      by none x e rec = no-table 2 (p .line + 1) u e
-      by (some fs) x e rec = go (eqb (judgeLine p (length fs) (padded fs)) 0) refl e
-        where
-          go : (k : Bool) → eqb (judgeLine p (length fs) (padded fs)) 0 ≡ k
-              → cond k (readLines (accepted p (padded fs) t) (placed p (padded fs) t) m ls) (refused (judgeLine p (length fs) (padded fs)) (p .line + 1)) ≡ table u
-              → (r : Progress) × Q r u × (complete r ≡ true)
-          go false z e = no-table _ _ u e
-          go true z e = rec _ _ (step p (padded fs) t (row-low l fs x) (stands p (length fs) (padded fs) (eqb-true _ _ z)) s) e
+      begun : Read
+      begun = record { progress = p; form = blankForm }
 
-  file-keeps : (p : Progress) (limit : ℕ) (s : List ℕ) → Q p blankForm → readFile p limit s ≡ table u → (q : Progress) × Q q u × (complete q ≡ true)
-  unfolding readFile
-  file-keeps p limit s h e = go (ltb limit (length s)) e
-    where
-      go : (k : Bool) → cond k (refused 1 0) (readLines p blankForm (pieces s .0) (pieces s .1)) ≡ table u → (q : Progress) × Q q u × (complete q ≡ true)
-      go true e = no-table 1 0 u e
-      go false e = lines-keep (pieces s .1) p blankForm (pieces s .0) h e
+      by : (o : Judged Read) → readFile tableRules file limit begun s ≡ o → (_then_ o (λ x. accepted (x .form))) ≡ accepted u → (q : Progress) × Q q u × (complete q ≡ true)
+      by (refused r) y e = let z : _≡_ {A = ℕ} 0 1 = cc in absurd (omega arith)
+      by (accepted x) z e =
+          let same : x .form ≡ u = cc in
+          let k = file-keeps tableRules file limit (λ m y. Q (y .progress) (y .form))
+              (λ m y fs l j w q. step (y .progress) (padded fs) (y .form) l (stands (y .progress) (length fs) (padded fs) j) q) x begun s h z in
+          (x .progress, subst (Q (x .progress)) same (k .1), k .2)
 
 completed : (p : Progress) → complete p ≡ true → (4 ≤ p .last) × (p .transitions ≤ p .transition)
 unfolding complete
@@ -124,9 +107,9 @@ legal-end p t s h c =
     }
 
 -- what holds of every table that is read
-pub legal : (s t : List ℕ) → readTable s ≡ table t → Legal t
+pub legal : (s t : List ℕ) → readTable s ≡ accepted t → Legal t
 legal s t e =
-    let h = file-keeps (λ p u. Sound p u × HeadedBy p u) (λ p f u l k g. (sound-step p f u (g .0) l k, headed-step p f u (g .0 .size) (g .1) k)) t atStart 40000 s
+    let h = form-keeps (λ p u. Sound p u × HeadedBy p u) (λ p f u l k g. (sound-step p f u (g .0) l k, headed-step p f u (g .0 .size) (g .1) k)) 1 40000 atStart s t
     (blank-sound atStart (omega arith) refl refl (omega arith), record { head1 = refl; head2 = refl; head3 = refl; head4 = refl; head5 = refl; passed = λ z. absurd (omega arith) }) e in
     legal-end (h .0) t (h .1 .0) (h .1 .1) (h .2)
 
@@ -138,13 +121,13 @@ record Aimed (r c l : ℕ) (p : Progress) (t : List ℕ) : Type 0 where
   same3 : p .locations ≡ l
   beyond : 3 ≤ p .last
 
-aimed-step : (r c l : ℕ) (p : Progress) (f t : List ℕ) → Low f → Stands p f → Aimed r c l p t → Aimed r c l (accepted p f t) (placed p f t)
+aimed-step : (r c l : ℕ) (p : Progress) (f t : List ℕ) → Low f → Stands p f → Aimed r c l p t → Aimed r c l (further p f t) (placed p f t)
 unfolding advance
 aimed-step r c l p f t x h s =
     let g = same h in
     record { sound = sound-step p f t (s .sound) x h; same1 = g .0; same2 = g .1; same3 = g .2; beyond = g .3 }
   where
-    same : Stands p f → (accepted p f t .registers ≡ r) × (accepted p f t .constants ≡ c) × (accepted p f t .locations ≡ l) × (3 ≤ accepted p f t .last)
+    same : Stands p f → (further p f t .registers ≡ r) × (further p f t .constants ≡ c) × (further p f t .locations ≡ l) × (3 ≤ further p f t .last)
     same (line1 k h b c d e g) = absurd (omega (arith, s .beyond))
     same (line2 k h i j) = absurd (omega (arith, s .beyond))
     same (line3 k h i j) = rw k (s .same1, s .same2, s .same3, omega arith)
@@ -165,13 +148,13 @@ target-end r c l p t s x y z e =
     }
 
 -- what holds of every target that is read, for a table of these counts
-target-legal : (r c l : ℕ) (s u : List ℕ) → r ≤ 5 → c ≤ 2 → l ≤ 16 → readFile (beforeTarget r c l) 309 s ≡ table u → LegalTarget r c l u
+target-legal : (r c l : ℕ) (s u : List ℕ) → r ≤ 5 → c ≤ 2 → l ≤ 16 → readForm 2 309 (beforeTarget r c l) s ≡ accepted u → LegalTarget r c l u
 target-legal r c l s u x y z e =
-    let h = file-keeps (Aimed r c l) (aimed-step r c l) u (beforeTarget r c l) 309 s
+    let h = form-keeps (Aimed r c l) (aimed-step r c l) 2 309 (beforeTarget r c l) s u
     (record { sound = blank-sound (beforeTarget r c l) (omega arith) refl refl (omega arith); same1 = refl; same2 = refl; same3 = refl; beyond = omega arith }) e in
     let a = h .1 in
     target-end r c l (h .0) u (a .sound) (a .same1) (a .same2) (a .same3) (h .2)
 
 -- what holds of every target that is read for the table with the form t
-pub legal-target : (t s u : List ℕ) → Legal t → readTarget t s ≡ table u → LegalTarget (cell t 0 1) (cell t 0 2) (cell t 0 3) u
+pub legal-target : (t s u : List ℕ) → Legal t → readTarget t s ≡ accepted u → LegalTarget (cell t 0 1) (cell t 0 2) (cell t 0 3) u
 legal-target t s u n e = target-legal (cell t 0 1) (cell t 0 2) (cell t 0 3) s u (n .registers) (n .constants) (n .locations .1) e

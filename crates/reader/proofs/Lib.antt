@@ -1,6 +1,5 @@
 -- The lemmas of the reader. For later crates: Shape and Legal (what a form that is read satisfies), WellFormed, Outcomes.
 pub mod Bounds
-pub mod Simulation
 pub mod Outcomes
 pub mod Accepted
 pub mod Rows

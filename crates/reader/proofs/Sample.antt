@@ -6,15 +6,16 @@ use lib.ListN.{take}
 use Rattle.automata.specs.Examples.{Claim, Means, examples, sample, loose, delivered, deliveredByOne}
 use Rattle.automata.proofs.Examples.{examples-hold}
 use Rattle.fields.specs.Format.{glyphOf}
+use Rattle.refusals.specs.Judged.Judged.{accepted}
+use Rattle.fields.specs.LineFiles.{readFile}
 use Rattle.forms.specs.TableForm.{automatonOf, targetOf}
-use Rattle.reader.specs.Rules.{hasTerm, expected, crowded, inRange, inOrder, judgeValues, judgeLine, judge, home, put, advance, complete}
+use Rattle.reader.specs.TableRules.{hasTerm, expected, crowded, inRange, inOrder, judgeValues, judgeLine, home, put, advance, complete}
 use Rattle.reader.specs.Sample.{sampleBytes, looseBytes, deliveredBytes, deliveredByOneBytes, sampleForm, looseForm, deliveredForm, deliveredByOneForm, readExamples}
-use Rattle.reader.specs.Table.{readFile, readTable, readTarget}
-use Rattle.reader.specs.Table.Outcome.{table}
+use Rattle.reader.specs.Table.{readTable, readTarget}
 
 -- the sixteen lines
-pub sample-read : readTable sampleBytes ≡ table sampleForm
-unfolding flatMap glyphOf hasTerm expected crowded inRange inOrder judgeValues judgeLine judge home put advance complete readFile
+pub sample-read : readTable sampleBytes ≡ accepted sampleForm
+unfolding flatMap glyphOf hasTerm expected crowded inRange inOrder judgeValues judgeLine home put advance complete readFile
 sample-read = refl
 
 pub sample-is : automatonOf sampleForm ≡ sample
@@ -22,8 +23,8 @@ unfolding automatonOf
 sample-is = refl
 
 -- without the line `8 1 1 1`
-pub loose-read : readTable looseBytes ≡ table looseForm
-unfolding flatMap glyphOf hasTerm expected crowded inRange inOrder judgeValues judgeLine judge home put advance complete readFile
+pub loose-read : readTable looseBytes ≡ accepted looseForm
+unfolding flatMap glyphOf hasTerm expected crowded inRange inOrder judgeValues judgeLine home put advance complete readFile
 loose-read = refl
 
 pub loose-is : automatonOf looseForm ≡ loose
@@ -31,16 +32,16 @@ unfolding automatonOf
 loose-is = refl
 
 -- the targets
-pub delivered-read : readTarget sampleForm deliveredBytes ≡ table deliveredForm
-unfolding flatMap glyphOf hasTerm expected crowded inRange inOrder judgeValues judgeLine judge home put advance complete readFile
+pub delivered-read : readTarget sampleForm deliveredBytes ≡ accepted deliveredForm
+unfolding flatMap glyphOf hasTerm expected crowded inRange inOrder judgeValues judgeLine home put advance complete readFile
 delivered-read = refl
 
 pub delivered-is : targetOf deliveredForm ≡ delivered
 unfolding targetOf
 delivered-is = refl
 
-pub delivered-by-one-read : readTarget sampleForm deliveredByOneBytes ≡ table deliveredByOneForm
-unfolding flatMap glyphOf hasTerm expected crowded inRange inOrder judgeValues judgeLine judge home put advance complete readFile
+pub delivered-by-one-read : readTarget sampleForm deliveredByOneBytes ≡ accepted deliveredByOneForm
+unfolding flatMap glyphOf hasTerm expected crowded inRange inOrder judgeValues judgeLine home put advance complete readFile
 delivered-by-one-read = refl
 
 pub delivered-by-one-is : targetOf deliveredByOneForm ≡ deliveredByOne

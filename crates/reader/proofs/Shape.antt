@@ -6,7 +6,7 @@ use mathlib.Core.Logic.{_⊎_}
 use mathlib.Core.Path.{_≡_}
 use lib.ListN.{length}
 use Rattle.forms.specs.TableForm.{cell}
-use Rattle.reader.specs.Rules.{at}
+use Rattle.reader.specs.TableRules.{at}
 use Rattle.reader.proofs.Accepted.{Inside, Named}
 use Rattle.reader.proofs.Rows.{rowAt}
 

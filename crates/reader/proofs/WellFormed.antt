@@ -15,9 +15,9 @@ use Rattle.graphs.proofs.Lists.{getD-map, upFrom-length, upFrom-getD}
 use Rattle.classes.specs.Renaming.{rising}
 use Rattle.automata.specs.Automaton.{Assignment, Transition, Automaton, arity}
 use Rattle.automata.specs.WellFormed.{inside, fitsTerm, fitsCondition, fitsAssignment, constantCount, fitsTransition, fitsConditions, wellFormed, limited, fitsTarget}
+use Rattle.refusals.specs.Judged.Judged.{accepted}
 use Rattle.forms.specs.TableForm.{cell, present, termOf, conditionAt, assignmentAt, transitionAt, automatonOf, targetOf}
 use Rattle.reader.specs.Table.{readTable, readTarget}
-use Rattle.reader.specs.Table.Outcome.{table}
 use Rattle.reader.proofs.Accepted.{Inside, Named, aRegister, aParameter, aConstant}
 use Rattle.reader.proofs.Rows.{rowAt}
 use Rattle.reader.proofs.Shape.{ConditionRow, AssignmentRow, Guarded, TransitionRows, Legal, LegalTarget}
@@ -192,7 +192,7 @@ params-few t n i k q s =
     subst (λ x. x ≤ 3) (ap (λ x. cell t x 1) e ∙ s .arity) (n .arities (a - 1) (omega arith))
 
 -- what is read as a table is well formed and keeps every limit
-pub table-well-formed : (s t : List ℕ) → readTable s ≡ table t → T (wellFormed (automatonOf t)) × T (limited (automatonOf t))
+pub table-well-formed : (s t : List ℕ) → readTable s ≡ accepted t → T (wellFormed (automatonOf t)) × T (limited (automatonOf t))
 table-well-formed s t e = let n = legal s t e in (legal-well-formed t n, legal-limited t n)
 
 -- the target of a form fits the automaton that has these counts
@@ -206,5 +206,5 @@ aim-fits t u n = (
 )
 
 -- what is read as a target of a table that is read fits this table
-pub target-fits : (s t q u : List ℕ) → readTable s ≡ table t → readTarget t q ≡ table u → T (fitsTarget (automatonOf t) (targetOf u)) × (length (targetOf u .conditions) ≤ 8)
+pub target-fits : (s t q u : List ℕ) → readTable s ≡ accepted t → readTarget t q ≡ accepted u → T (fitsTarget (automatonOf t) (targetOf u)) × (length (targetOf u .conditions) ≤ 8)
 target-fits s t q u e f = aim-fits t u (legal-target t q u (legal s t e) f)

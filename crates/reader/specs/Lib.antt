@@ -1,6 +1,6 @@
--- What the contracts of the reader cite. Form, Rules, Table and Reply are to be believed; Machine has the shape of the code and is not.
-pub mod Rules
+-- What the contracts of the reader cite. Rules, Table and Reply are to be believed; TableRead has the shape of the code and is not.
+pub mod TableRules
 pub mod Table
-pub mod Reply
-pub mod Machine
+pub mod TableReply
+pub mod TableRead
 pub mod Sample

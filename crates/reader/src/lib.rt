@@ -1,20 +1,20 @@
-// The reader of tables and targets: the rules for their lines, and a machine that reads their bytes one at a time.
+// The reader of tables and targets: the rules for their lines, and the loop over their bytes.
 ghost use mathlib.Core.Path.{_≡_};
 ghost use mathlib.Core.Bool.{cond};
 ghost use Prim.Native.Nat.{ℕ, _+_, _^_, _≤_};
 ghost use lib.ListN.{length, getD, set};
-ghost use mathlib.Core.List.{List};
 ghost use Rattle.automata.specs.WellFormed.{inside};
-ghost use Rattle.reader.specs.Rules.{hasTerm, expected, crowded, inRange, inOrder, judgeValues, judgeLine, advance, home, put, accepted, complete};
-ghost use Rattle.reader.specs.Machine.{judgeRead, afterLine, formAfterLine, fed, wrote, begun, ending, run, Small};
-ghost use Rattle.reader.specs.Table.{readFile, readTable, readTarget};
-ghost use Rattle.reader.specs.Reply.{replyOf, formOf};
+ghost use Rattle.fields.specs.Machine.{between, judgeRead, ended, fed, run};
+ghost use Rattle.reader.specs.TableRules.{hasTerm, expected, crowded, inRange, inOrder, judgeValues, judgeLine, advance, home, put, further, placed, complete};
+ghost use Rattle.reader.specs.Table.{tableRules, readForm, readTable, readTarget};
+ghost use Rattle.reader.specs.TableReply.{replyOf, formOf};
+ghost use Rattle.reader.specs.TableRead.{reading, Small};
 use fields::Line;
+use fields::Lines;
+use refusals::Refusal;
 
 // How far a table is read. Locations are document 01's places, transitions its arcs.
 pub struct Progress {
-    // lines accepted so far
-    pub line: u32,
     // the counts of line 1
     pub registers: u32,
     pub constants: u32,
@@ -134,7 +134,7 @@ fn judge_fields(p: Progress, n: usize, f: [u32; 6]) -> u32
 
 // The refusal of a line, or 0.
 fn judge_line(p: Progress, l: Line) -> u32
-    ensures { λ r. ⌜ r ≡ judgeRead p l ⌝ }
+    ensures { λ r. ⌜ r ≡ judgeRead (judgeLine p) l ⌝ }
 {
     let f = l.fields;
     if l.good {
@@ -189,7 +189,6 @@ fn advanced(p: Progress, f: [u32; 6], a: u32) -> Progress
 {
     let k = f[0];
     Progress {
-        line: p.line + 1,
         registers: pick(k == 1, f[1], p.registers),
         constants: pick(k == 1, f[2], p.constants),
         locations: pick(k == 1, f[3], p.locations),
@@ -222,34 +221,10 @@ fn home_row(p: Progress, k: u32, n: u32) -> usize
     }
 }
 
-// The state of the reader of a table between two bytes.
-pub struct Reader {
-    pub progress: Progress,
-    // the line being read
-    pub line: Line,
-    // it has a byte
-    pub partial: bool,
-    // the refusal of an earlier line, or 0
-    pub number: u32,
-}
-
-// The state before the first byte.
-fn begin(p: Progress) -> Reader
-    ensures { λ r. ⌜ r ≡ begun p ⌝ }
-{
-    let line = fields::empty();
-    Reader {
-        progress: p,
-        line: line,
-        partial: false,
-        number: 0,
-    }
-}
-
 // A line is accepted: its numbers go to its row.
 fn accept(p: Progress, f: [u32; 6], t: &mut [u32]) -> Progress
     requires { ⌜ Small p 50000 ⌝ }
-    ensures { λ r. ⌜ (r ≡ accepted p f (now (t .entry))) × (now (t .exit) ≡ put (now (t .entry)) (home p (getD f 0 0) (getD f 1 0)) f) ⌝ }
+    ensures { λ r. ⌜ (r ≡ further p f (now (t .entry))) × (now (t .exit) ≡ placed p f (now (t .entry))) ⌝ }
 {
     let action = f[2] as usize;
     let params = load(t, 6 * (2 + action) + 1);
@@ -258,60 +233,63 @@ fn accept(p: Progress, f: [u32; 6], t: &mut [u32]) -> Progress
     advanced(p, f, params)
 }
 
+// The state of the reader of a table between two bytes.
+pub struct Reader {
+    pub progress: Progress,
+    pub lines: Lines,
+}
+
 // Byte 10.
 fn end_line(r: Reader, t: &mut [u32]) -> Reader
-    requires { ⌜ Small (r .progress) 50000 ⌝ }
-    ensures { λ q. ⌜ (q ≡ afterLine r (now (t .entry))) × (now (t .exit) ≡ formAfterLine r (now (t .entry))) ⌝ }
+    requires { ⌜ Small (r .progress) 50000 × (r .lines .lines ≤ 50000) ⌝ }
+    ensures { λ q. ⌜ reading q (now (t .exit)) ≡ ended tableRules (reading r (now (t .entry))) ⌝ }
 {
     let p = r.progress;
-    let l = fields::close(r.line);
+    let lines = r.lines;
+    let l = fields::close(lines.line);
     let n = judge_line(p, l);
+    let next = fields::with_line(lines, n);
     if n == 0 {
         let f = l.fields;
         let q = accept(p, f, t);
-        let line = fields::empty();
         return Reader {
             progress: q,
-            line: line,
-            partial: false,
-            number: 0,
+            lines: next,
         };
     }
     Reader {
         progress: p,
-        line: l,
-        partial: false,
-        number: n,
+        lines: next,
     }
 }
 
 // The next byte.
 fn feed(r: Reader, b: u8, t: &mut [u32]) -> Reader
-    requires { ⌜ Small (r .progress) 50000 ⌝ }
-    ensures { λ q. ⌜ (q ≡ fed r (now (t .entry)) b) × (now (t .exit) ≡ wrote r (now (t .entry)) b) ⌝ }
+    requires { ⌜ Small (r .progress) 50000 × (r .lines .lines ≤ 50000) ⌝ }
+    ensures { λ q. ⌜ reading q (now (t .exit)) ≡ fed tableRules (reading r (now (t .entry))) b ⌝ }
 {
-    if r.number == 0 {
-        if b == 10 {
-            return end_line(r, t);
-        }
-        let p = r.progress;
-        let line = fields::step(r.line, b);
-        return Reader {
-            progress: p,
-            line: line,
-            partial: true,
-            number: 0,
-        };
+    let lines = r.lines;
+    if fields::ends_line(lines, b) {
+        return end_line(r, t);
     }
-    r
+    let p = r.progress;
+    let next = fields::with_byte(lines, b);
+    Reader {
+        progress: p,
+        lines: next,
+    }
 }
 
 // The whole file, byte after byte.
 fn read_bytes(p: Progress, s: &[u8], t: &mut [u32]) -> Reader
-    requires { ⌜ (length (now s) ≤ 40000) × Small p 100 ⌝ }
-    ensures { λ r. ⌜ (ending r (now (t .exit)) ≡ run (begun p) (now (t .entry)) (now (s .entry))) × (Small (r .progress) 50000) ⌝ }
+    requires { ⌜ (length (now s) ≤ 40000) × Small p 0 ⌝ }
+    ensures { λ r. ⌜ (reading r (now (t .exit)) ≡ run tableRules (record { state = record { progress = p; form = now (t .entry) }; lines = between 0 }) (now (s .entry))) × (r .lines .lines ≤ 40000) ⌝ }
 {
-    let mut r = begin(p);
+    let lines = fields::between_lines(0);
+    let mut r = Reader {
+        progress: p,
+        lines: lines,
+    };
     let mut i = 0;
     while i < s.len() {
         r = feed(r, s[i], t);
@@ -322,7 +300,7 @@ fn read_bytes(p: Progress, s: &[u8], t: &mut [u32]) -> Reader
 
 pub enum Reply {
     Accepted,
-    Refused { number: u32, file: u32, line: u32 },
+    Refused(Refusal),
 }
 
 // The table may end here.
@@ -332,65 +310,38 @@ fn is_complete(p: Progress) -> bool
     (4 <= p.last) & (p.transitions <= p.transition)
 }
 
-// The reply at the end of a file.
-fn finish(r: Reader, file: u32) -> Reply
-    requires { ⌜ Small (r .progress) 50000 ⌝ }
-    ensures { λ q. ⌜ ((t : List ℕ) → q ≡ replyOf file (ending r t)) ⌝ }
-{
-    let p = r.progress;
-    let line = p.line + 1;
-    let n = r.number;
-    if n == 0 {
-        if r.partial {
-            return Reply::Refused {
-                number: 2,
-                file: file,
-                line: line,
-            };
-        }
-        if is_complete(p) {
-            return Reply::Accepted;
-        }
-        return Reply::Refused {
-            number: 2,
-            file: file,
-            line: line,
-        };
-    }
-    Reply::Refused {
-        number: n,
-        file: file,
-        line: line,
-    }
-}
-
 // Reads the lines of a file to the form t; a refusal leaves t as it is.
 fn read_file(p: Progress, file: u32, limit: usize, s: &[u8], t: &mut [u32; 5544]) -> Reply
-    requires { ⌜ (limit ≤ 40000) × Small p 100 ⌝ }
-    ensures { λ r. ⌜ (r ≡ replyOf file (readFile p limit (now (s .entry)))) × (now (t .exit) ≡ formOf (readFile p limit (now (s .entry))) (now (t .entry))) ⌝ }
+    requires { ⌜ (limit ≤ 40000) × Small p 0 ⌝ }
+    ensures { λ r. ⌜ (r ≡ replyOf (readForm file limit p (now (s .entry)))) × (now (t .exit) ≡ formOf (readForm file limit p (now (s .entry))) (now (t .entry))) ⌝ }
 {
     if limit < s.len() {
-        return Reply::Refused {
+        return Reply::Refused(Refusal {
             number: 1,
             file: file,
             line: 0,
-        };
+        });
     }
     let mut form = [0u32; 5544];
     let r = read_bytes(p, s, &mut form);
-    let reply = finish(r, file);
-    if let Reply::Accepted = reply {
+    let lines = r.lines;
+    let n = fields::at_end(lines, is_complete(r.progress));
+    if n == 0 {
         *t = form;
+        return Reply::Accepted;
     }
-    reply
+    Reply::Refused(Refusal {
+        number: n,
+        file: file,
+        line: lines.lines + 1,
+    })
 }
 
 // Reads a table to the form t; a refusal leaves t as it is.
 pub fn read_table(s: &[u8], t: &mut [u32; 5544]) -> Reply
-    ensures { λ r. ⌜ (r ≡ replyOf 1 (readTable (now (s .entry)))) × (now (t .exit) ≡ formOf (readTable (now (s .entry))) (now (t .entry))) ⌝ }
+    ensures { λ r. ⌜ (r ≡ replyOf (readTable (now (s .entry)))) × (now (t .exit) ≡ formOf (readTable (now (s .entry))) (now (t .entry))) ⌝ }
 {
     let p = Progress {
-        line: 0,
         registers: 0,
         constants: 0,
         locations: 0,
@@ -409,10 +360,9 @@ pub fn read_table(s: &[u8], t: &mut [u32; 5544]) -> Reply
 
 // Reads a target of the table with the form `table` to the form t; a refusal leaves t as it is.
 pub fn read_target(table: &[u32], s: &[u8], t: &mut [u32; 5544]) -> Reply
-    ensures { λ r. ⌜ (r ≡ replyOf 2 (readTarget (now (table .entry)) (now (s .entry)))) × (now (t .exit) ≡ formOf (readTarget (now (table .entry)) (now (s .entry))) (now (t .entry))) ⌝ }
+    ensures { λ r. ⌜ (r ≡ replyOf (readTarget (now (table .entry)) (now (s .entry)))) × (now (t .exit) ≡ formOf (readTarget (now (table .entry)) (now (s .entry))) (now (t .entry))) ⌝ }
 {
     let p = Progress {
-        line: 0,
         registers: load(table, 1),
         constants: load(table, 2),
         locations: load(table, 3),

@@ -1,6 +1,6 @@
 -- `questions::judge_field` meets its contract. Assumes nothing.
 use borrow.Author.Tests.{eq-eqb, ne-eqb}
-use Rattle.questions.specs.Rules.{judgeField}
+use Rattle.questions.specs.QuestionRules.{judgeField}
 use borrow.Author.Needs.{needs}
 use Rattle.questions.proofs.judge_field.Statement.{statement}
 use Rattle.questions.proofs.judge_field.Tie as tie

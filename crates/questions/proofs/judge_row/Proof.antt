@@ -1,8 +1,8 @@
 -- `questions::judge_row` meets its contract. Assumes nothing.
 use borrow.Author.Needs.{needs}
 use borrow.Author.Tests.{eq-eqb, ne-eqb}
-use Rattle.questions.specs.Rules.{judgeRow}
-use Rattle.questions.proofs.Judged.{judge-shape}
+use Rattle.questions.specs.QuestionRules.{judgeRow}
+use Rattle.questions.proofs.RowShapes.{judge-shape}
 use Rattle.questions.proofs.judge_row.Statement.{statement}
 use Rattle.questions.proofs.judge_row.Tie as tie
 

@@ -1,26 +1,28 @@
 -- `questions::read_bytes` meets its contract. Assumes nothing.
 use Prim.Native.Nat.{_≤_, _-_, _+_}
 use lib.ListN.{length, drop, getD}
-use mathlib.Core.Path.{_≡_, refl, _∙_, ap}
+use mathlib.Core.Path.{_≡_, refl, _∙_, ap, subst⁻¹}
 use native.Mathlib.Omega.{arith}
-use Rattle.questions.specs.Machine.{fed, run}
-use Rattle.questions.specs.declared.Reader.{Reader}
-use Rattle.questions.proofs.Simulation.{run-on, run-end, rows-fed}
+use Rattle.fields.specs.Machine.{Reading, run}
+use Rattle.fields.specs.declared.Lines.{Lines}
+use Rattle.fields.proofs.LineFiles.{run-on, run-end, fed-cases}
+use Rattle.questions.specs.Question.{Rows, questionRules}
+use Rattle.questions.specs.RowsRead.{reading}
 use borrow.Author.Needs.{needs}
 use Rattle.questions.proofs.read_bytes.Statement.{statement}
 use Rattle.questions.proofs.read_bytes.Tie as tie
 
 abbrev Inv-loop : tie.InvT-loop
-Inv-loop c s t₀ r₀ i₀ t r i = (i ≤ length s) × (run c r t (drop i s) ≡ run c r₀ t₀ s) × (r .rows ≤ i) × (length t ≡ length t₀)
+Inv-loop c s t₀ r₀ i₀ t r i = (i ≤ length s) × (run (questionRules c) (reading r t) (drop i s) ≡ run (questionRules c) (reading r₀ t₀) s) × (r .lines ≤ i) × (length t ≡ length t₀)
 
 abbrev μ-loop : tie.MeasureT-loop
 μ-loop c s t₀ r₀ i₀ t r i = length s - i
 
-before-line-requires : tie.Need-before-line-requires Inv-loop μ-loop
-before-line-requires c κs = search needs
+between-lines-requires : tie.Need-between-lines-requires Inv-loop μ-loop
+between-lines-requires c κs = search needs
 
 loop-holds : tie.Need-loop-holds Inv-loop μ-loop
-loop-holds c = (omega arith, refl, rw (c .before-line .ensures) (omega arith), refl)
+loop-holds c = (omega arith, refl, rw (c .between-lines .ensures) (omega arith), refl)
 
 shared-slice-read-feed : tie.Need-shared-slice-read-feed Inv-loop μ-loop
 shared-slice-read-feed c = search needs
@@ -39,10 +41,10 @@ loop-again c =
     let v = c .before .before .before .before .before .before .loop in
     let g = c .before .before .feed in
     let a = c .before .before .before .before .before .before .before .before .before .before .args in
-    let m : fed (a .c) (v .r) (getD (a .s .now) (v .i) 0) .rows ≤ v .i + 1 = rows-fed (a .c) (v .r) (getD (a .s .now) (v .i) 0) (v .i) (v .inv .2) in (
+    let y : Reading Rows = reading (v .r) (v .t) in (
       omega arith,
-      run-on (a .c) (a .s .now) (v .t) (v .r) (v .i) (g .result) _ _ (c .before .before .before .before .before .loop-test .taken) (g .ensures .0) (g .ensures .1) (v .inv .1),
-      rw (g .ensures .0) m,
+      run-on (questionRules (a .c)) (a .s .now) y _ _ (v .i) (c .before .before .before .before .before .loop-test .taken) (g .ensures) (v .inv .1),
+      subst⁻¹ (λ (z : Reading Rows). z .lines .lines ≤ v .i + 1) (g .ensures) (fed-cases (questionRules (a .c)) (λ n s. n ≤ v .i + 1) y (getD (a .s .now) (v .i) 0) (omega arith) (λ f. omega arith)),
       g .kept .1 .1 .1 .0 ∙ v .inv .3,
     )
 
@@ -53,7 +55,7 @@ returns : tie.Need-returns Inv-loop μ-loop
 returns c =
     let v = c .before .loop in
     let a = c .before .before .before .before .before .args in (
-      run-end (a .c) (a .s .now) (v .t) (v .r) (v .i) _ (c .loop-test .left) (v .inv .1) ∙ ap (λ (r : Reader). run (a .c) r (a .t .now) (a .s .now)) (c .before .before .before-line .ensures),
+      run-end (questionRules (a .c)) (a .s .now) (reading (v .r) (v .t)) _ (v .i) (c .loop-test .left) (v .inv .1) ∙ ap (λ (r : Lines). run (questionRules (a .c)) (reading r (a .t .now)) (a .s .now)) (c .before .before .between-lines .ensures),
       omega arith,
     )
 
@@ -63,7 +65,7 @@ read-bytes-spec =
     (tie.spec
     Inv-loop
     μ-loop
-    before-line-requires
+    between-lines-requires
     loop-holds
     shared-slice-read-feed
     feed-requires

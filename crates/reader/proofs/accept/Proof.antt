@@ -8,7 +8,7 @@ use mir.Val.{Fits}
 use native.Mathlib.Omega.{arith}
 use Rattle.reader.proofs.Bounds.{home-low}
 use Rattle.reader.proofs.accept.Statement.{statement}
-use Rattle.reader.specs.Rules.{put, advance}
+use Rattle.reader.specs.TableRules.{put, advance}
 use Rattle.reader.proofs.accept.Tie as tie
 
 array-read-action : tie.Need-array-read-action

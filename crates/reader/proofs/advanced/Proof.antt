@@ -2,14 +2,11 @@
 use borrow.Author.Needs.{needs}
 use native.Mathlib.Omega.{arith}
 use Rattle.reader.proofs.advanced.Statement.{statement}
-use Rattle.reader.specs.Rules.{advance}
+use Rattle.reader.specs.TableRules.{advance}
 use Rattle.reader.proofs.advanced.Tie as tie
 
 array-read-k : tie.Need-array-read-k
 array-read-k c = search needs
-
-add-t8 : tie.Need-add-t8
-add-t8 c = search needs
 
 array-read-pick : tie.Need-array-read-pick
 array-read-pick c = search needs
@@ -60,7 +57,7 @@ pick-requires-8 : tie.Need-pick-requires-8
 pick-requires-8 c κs = search needs
 
 add-pick-4 : tie.Need-add-pick-4
-add-pick-4 c = omega (arith, c .before .before .before .before .before .before .before .before .before .before .before .before .before .pre .conds-small)
+add-pick-4 c = omega (arith, c .before .before .before .before .before .before .before .before .before .before .before .before .pre .conds-small)
 
 pick-requires-9 : tie.Need-pick-requires-9
 pick-requires-9 c κs = search needs
@@ -89,7 +86,6 @@ advanced-spec =
     tie.close
     (tie.spec
     array-read-k
-    add-t8
     array-read-pick
     pick-requires
     array-read-pick-2

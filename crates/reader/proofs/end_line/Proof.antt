@@ -1,8 +1,8 @@
 -- `reader::end_line` meets its contract. Assumes nothing.
 use borrow.Author.Needs.{needs}
 use borrow.Author.Tests.{eq-eqb, ne-eqb}
+use Rattle.fields.specs.Machine.{onEnd}
 use Rattle.reader.proofs.end_line.Statement.{statement}
-use Rattle.reader.specs.Machine.{afterLine, formAfterLine}
 use Rattle.reader.proofs.end_line.Tie as tie
 
 close-requires : tie.Need-close-requires
@@ -11,22 +11,24 @@ close-requires c κs = search needs
 judge-line-requires : tie.Need-judge-line-requires
 judge-line-requires c κs = search needs
 
+with-line-requires : tie.Need-with-line-requires
+with-line-requires c κs = search needs
+
 accept-requires : tie.Need-accept-requires
 accept-requires c κs = search needs
-
-empty-requires : tie.Need-empty-requires
-empty-requires c κs = search needs
 
 same-length : tie.Need-same-length
 same-length c = search needs
 
 returns : tie.Need-returns
-unfolding afterLine formAfterLine
-returns c = (simp (← c .before .before .before .before .before .before .before .before .close .ensures, ← c .before .before .before .before .before .before .before .judge-line .ensures, eq-eqb _ _ (c .before .before .before .before .before .before .if1 .taken), c .before .before .before .accept .ensures .0, c .empty .ensures), simp (← c .before .before .before .before .before .before .before .before .close .ensures, ← c .before .before .before .before .before .before .before .judge-line .ensures, eq-eqb _ _ (c .before .before .before .before .before .before .if1 .taken), c .before .before .before .accept .ensures .1))
+unfolding onEnd
+returns c =
+    let d = c .before .before .before .before .before .before in
+    simp (d .with-line .ensures, ← d .before .before .close .ensures, ← d .before .judge-line .ensures, eq-eqb _ _ (c .before .before .before .before .before .if1 .taken), c .before .before .accept .ensures .0, c .before .before .accept .ensures .1)
 
 returns-2 : tie.Need-returns-2
-unfolding afterLine formAfterLine
-returns-2 c = (simp (← c .before .before .close .ensures, ← c .before .judge-line .ensures, ne-eqb _ _ (c .if1 .left)), simp (← c .before .before .close .ensures, ← c .before .judge-line .ensures, ne-eqb _ _ (c .if1 .left)))
+unfolding onEnd
+returns-2 c = simp (c .before .with-line .ensures, ← c .before .before .before .close .ensures, ← c .before .before .judge-line .ensures, ne-eqb _ _ (c .if1 .left))
 
 pub end-line-spec : {M : Type 1} → statement M
 end-line-spec =
@@ -34,8 +36,8 @@ end-line-spec =
     (tie.spec
     close-requires
     judge-line-requires
+    with-line-requires
     accept-requires
-    empty-requires
     same-length
     returns
     returns-2)

@@ -1,7 +1,7 @@
 -- `reader::has_range` meets its contract. Assumes nothing.
 use borrow.Author.Needs.{needs}
 use Rattle.reader.proofs.has_range.Statement.{statement}
-use Rattle.reader.specs.Rules.{inRange}
+use Rattle.reader.specs.TableRules.{inRange}
 use Rattle.reader.proofs.has_range.Tie as tie
 
 array-read-k : tie.Need-array-read-k

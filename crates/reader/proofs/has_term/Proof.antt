@@ -1,7 +1,7 @@
 -- `reader::has_term` meets its contract. Assumes nothing.
 use borrow.Author.Needs.{needs}
 use Rattle.reader.proofs.has_term.Statement.{statement}
-use Rattle.reader.specs.Rules.{hasTerm}
+use Rattle.reader.specs.TableRules.{hasTerm}
 use Rattle.reader.proofs.has_term.Tie as tie
 
 in-count-requires : tie.Need-in-count-requires

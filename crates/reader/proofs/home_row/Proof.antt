@@ -2,7 +2,7 @@
 use borrow.Author.Needs.{needs}
 use borrow.Author.Tests.{ne-eqb}
 use Rattle.reader.proofs.home_row.Statement.{statement}
-use Rattle.reader.specs.Rules.{home}
+use Rattle.reader.specs.TableRules.{home}
 use Rattle.reader.proofs.home_row.Tie as tie
 
 cast-result : tie.Need-cast-result

@@ -1,7 +1,7 @@
 -- `reader::is_complete` meets its contract. Assumes nothing.
 use mathlib.Core.Path.{refl}
 use Rattle.reader.proofs.is_complete.Statement.{statement}
-use Rattle.reader.specs.Rules.{complete}
+use Rattle.reader.specs.TableRules.{complete}
 use Rattle.reader.proofs.is_complete.Tie as tie
 
 returns : tie.Need-returns

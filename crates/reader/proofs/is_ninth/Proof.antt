@@ -1,7 +1,7 @@
 -- `reader::is_ninth` meets its contract. Assumes nothing.
 use mathlib.Core.Path.{refl}
 use Rattle.reader.proofs.is_ninth.Statement.{statement}
-use Rattle.reader.specs.Rules.{crowded}
+use Rattle.reader.specs.TableRules.{crowded}
 use Rattle.reader.proofs.is_ninth.Tie as tie
 
 returns : tie.Need-returns

@@ -2,7 +2,7 @@
 use borrow.Author.Needs.{needs}
 use mathlib.Core.Path.{_∙_, sym}
 use Rattle.reader.proofs.judge_fields.Statement.{statement}
-use Rattle.reader.specs.Rules.{judgeLine}
+use Rattle.reader.specs.TableRules.{judgeLine}
 use Rattle.reader.proofs.judge_fields.Tie as tie
 
 array-read-k : tie.Need-array-read-k

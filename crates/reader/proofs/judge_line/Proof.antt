@@ -1,18 +1,15 @@
 -- `reader::judge_line` meets its contract. Assumes nothing.
 use borrow.Author.Needs.{needs}
 use Rattle.reader.proofs.judge_line.Statement.{statement}
-use Rattle.reader.specs.Machine.{judgeRead}
 use Rattle.reader.proofs.judge_line.Tie as tie
 
 judge-fields-requires : tie.Need-judge-fields-requires
 judge-fields-requires c κs = search needs
 
 returns : tie.Need-returns
-unfolding judgeRead
 returns c = simp (c .judge-fields .ensures, c .before .if1 .taken)
 
 returns-2 : tie.Need-returns-2
-unfolding judgeRead
 returns-2 c = simp (c .if1 .left)
 
 pub judge-line-spec : {M : Type 1} → statement M

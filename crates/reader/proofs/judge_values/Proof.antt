@@ -3,7 +3,7 @@ use borrow.Author.Needs.{needs}
 use borrow.Author.Tests.{eq-eqb, ne-eqb}
 use mathlib.Core.Path.{_∙_, sym}
 use Rattle.reader.proofs.judge_values.Statement.{statement}
-use Rattle.reader.specs.Rules.{judgeValues}
+use Rattle.reader.specs.TableRules.{judgeValues}
 use Rattle.reader.proofs.judge_values.Tie as tie
 
 array-read-k : tie.Need-array-read-k

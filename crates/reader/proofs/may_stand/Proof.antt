@@ -1,7 +1,7 @@
 -- `reader::may_stand` meets its contract. Assumes nothing.
 use mathlib.Core.Path.{refl}
 use Rattle.reader.proofs.may_stand.Statement.{statement}
-use Rattle.reader.specs.Rules.{expected}
+use Rattle.reader.specs.TableRules.{expected}
 use Rattle.reader.proofs.may_stand.Tie as tie
 
 returns : tie.Need-returns

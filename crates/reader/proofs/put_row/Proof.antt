@@ -5,7 +5,7 @@ use lib.ListN.{set, getD}
 use mathlib.Core.List.{List}
 use mathlib.Core.Path.{_∙_, ap}
 use Rattle.reader.proofs.put_row.Statement.{statement}
-use Rattle.reader.specs.Rules.{put}
+use Rattle.reader.specs.TableRules.{put}
 use Rattle.reader.proofs.put_row.Tie as tie
 
 mul-i : tie.Need-mul-i

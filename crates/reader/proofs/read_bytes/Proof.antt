@@ -2,36 +2,38 @@
 use Prim.Native.Nat.{ℕ, _≤_, _-_, _+_}
 use borrow.Author.Needs.{needs}
 use lib.ListN.{length, drop, getD}
-use mathlib.Core.List.{List}
-use mathlib.Core.Path.{_≡_, refl, _∙_, ap}
+use mathlib.Core.Path.{_≡_, refl, _∙_, ap, subst⁻¹}
 use native.Mathlib.Omega.{arith}
-use Rattle.reader.proofs.Bounds.{small-weaken, small-fed}
-use Rattle.reader.proofs.Simulation.{run-on, run-end}
+use Rattle.fields.specs.Machine.{Reading, run}
+use Rattle.fields.specs.declared.Lines.{Lines}
+use Rattle.fields.proofs.LineFiles.{run-on, run-end, fed-cases}
+use Rattle.reader.specs.Table.{Read, tableRules}
+use Rattle.reader.specs.TableRead.{reading, Small}
+use Rattle.reader.proofs.Bounds.{small-weaken, small-advance}
 use Rattle.reader.proofs.read_bytes.Statement.{statement}
-use Rattle.reader.specs.Machine.{fed, run}
-use Rattle.reader.specs.Machine.{Small}
-use Rattle.reader.specs.declared.Reader.{Reader}
 use Rattle.reader.proofs.read_bytes.Tie as tie
 
+-- each line adds at most one to each counter
+abbrev Few : ℕ → ℕ → Read → Type 0
+Few i n x = (n ≤ i) × Small (x .progress) n
+
 abbrev Inv-loop : tie.InvT-loop
-Inv-loop s t₀ r₀ i₀ t r i = (i ≤ length s) × (run r t (drop i s) ≡ run r₀ t₀ s) × Small (r .progress) (100 + i) × (length t ≡ length t₀)
+Inv-loop s t₀ r₀ i₀ t r i = (i ≤ length s) × (run tableRules (reading r t) (drop i s) ≡ run tableRules (reading r₀ t₀) s) × Few i (r .lines .lines) (reading r t .state) × (length t ≡ length t₀)
 
 abbrev μ-loop : tie.MeasureT-loop
 μ-loop s t₀ r₀ i₀ t r i = length s - i
 
-begin-requires : tie.Need-begin-requires Inv-loop μ-loop
-begin-requires c κs = search needs
+between-lines-requires : tie.Need-between-lines-requires Inv-loop μ-loop
+between-lines-requires c κs = search needs
 
 loop-holds : tie.Need-loop-holds Inv-loop μ-loop
-loop-holds c = (omega arith, refl, rw (c .begin .ensures) (small-weaken (c .before .before .before .args .p) 100 _ (omega arith) (c .before .before .before .pre .1)), refl)
+loop-holds c = (omega arith, refl, rw (c .between-lines .ensures) (omega arith, c .before .before .before .pre .1), refl)
 
 shared-slice-read-feed : tie.Need-shared-slice-read-feed Inv-loop μ-loop
 shared-slice-read-feed c = search needs
 
 feed-requires : tie.Need-feed-requires Inv-loop μ-loop
-feed-requires c κs =
-    let v = c .before .before .before .loop in
-    small-weaken (v .r .progress) (100 + v .i) 50000 (omega arith) (v .inv .2)
+feed-requires c κs = let v = c .before .before .before .loop in (small-weaken (v .r .progress) (v .r .lines .lines) 50000 (omega arith) (v .inv .2 .1), omega arith)
 
 add-i : tie.Need-add-i Inv-loop μ-loop
 add-i c = omega arith
@@ -43,11 +45,12 @@ loop-again : tie.Need-loop-again Inv-loop μ-loop
 loop-again c =
     let v = c .before .before .before .before .before .before .loop in
     let g = c .before .before .feed in
-    let s : List ℕ = c .before .before .before .before .before .before .before .before .before .before .args .s .now in
-    let m : Small (fed (v .r) (v .t) (getD s (v .i) 0) .progress) (100 + (v .i + 1)) = small-weaken _ (100 + v .i + 1) (100 + (v .i + 1)) (omega arith) (small-fed (v .r) (v .t) (getD s (v .i) 0) (100 + v .i) (v .inv .2)) in (
+    let a = c .before .before .before .before .before .before .before .before .before .before .args in
+    let y : Reading Read = reading (v .r) (v .t) in (
       omega arith,
-      run-on s (v .t) (v .r) (v .i) (g .result) _ _ (c .before .before .before .before .before .loop-test .taken) (g .ensures .0) (g .ensures .1) (v .inv .1),
-      rw (g .ensures .0) m,
+      run-on tableRules (a .s .now) y _ _ (v .i) (c .before .before .before .before .before .loop-test .taken) (g .ensures) (v .inv .1),
+      subst⁻¹ (λ (z : Reading Read). Few (v .i + 1) (z .lines .lines) (z .state)) (g .ensures)
+          (fed-cases tableRules (Few (v .i + 1)) y (getD (a .s .now) (v .i) 0) (omega arith, v .inv .2 .1) (λ f. (omega arith, small-advance (v .r .progress) f _ (v .r .lines .lines) (v .inv .2 .1)))),
       g .kept .1 .1 .0 ∙ v .inv .3,
     )
 
@@ -58,8 +61,9 @@ returns : tie.Need-returns Inv-loop μ-loop
 returns c =
     let v = c .before .loop in
     let a = c .before .before .before .before .before .args in (
-      run-end (a .s .now) (v .t) (v .r) (v .i) _ (c .loop-test .left) (v .inv .1) ∙ ap (λ (r : Reader). run r (a .t .now) (a .s .now)) (c .before .before .begin .ensures),
-      small-weaken (v .r .progress) (100 + v .i) 50000 (omega arith) (v .inv .2),
+      run-end tableRules (a .s .now) (reading (v .r) (v .t)) _ (v .i) (c .loop-test .left) (v .inv .1)
+          ∙ ap (λ (l : Lines). run tableRules (record { state = record { progress = a .p; form = a .t .now }; lines = l }) (a .s .now)) (c .before .before .between-lines .ensures),
+      omega arith,
     )
 
 pub read-bytes-spec : {M : Type 1} → statement M
@@ -68,7 +72,7 @@ read-bytes-spec =
     (tie.spec
     Inv-loop
     μ-loop
-    begin-requires
+    between-lines-requires
     loop-holds
     shared-slice-read-feed
     feed-requires

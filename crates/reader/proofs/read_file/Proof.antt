@@ -1,15 +1,19 @@
 -- `reader::read_file` meets its contract. Assumes nothing.
 use borrow.Author.Needs.{needs}
-use mathlib.Core.Path.{_≡_, _∙_, ap, sym}
-use Rattle.reader.proofs.Outcomes.{read-long, read-ends, form-accepted, form-refused}
+use mathlib.Core.Path.{_∙_, ap}
+use Rattle.fields.specs.Machine.{verdict}
+use Rattle.fields.proofs.LineFiles.{read-long, read-accepted, read-refused}
+use Rattle.reader.specs.Table.{Read, tableRules, blankForm}
+use Rattle.reader.specs.TableRead.{reading}
 use Rattle.reader.proofs.read_file.Statement.{statement}
-use Rattle.reader.specs.Machine.{ending}
-use Rattle.reader.specs.Reply.{replyOf, formOf}
-use Rattle.reader.specs.Table.{Outcome, readFile}
 use Rattle.reader.proofs.read_file.Tie as tie
 
 returns : tie.Need-returns
-returns c = (rw (read-long (c .before .before .args .p) _ _ (c .if1 .taken)), rw (read-long (c .before .before .args .p) _ _ (c .if1 .taken)))
+returns c =
+    let a = c .before .before .args in
+    let begun : Read = record { progress = a .p; form = blankForm } in
+    let e = read-long tableRules (a .file) (a .limit) begun (a .s .now) (c .if1 .taken) in
+    (rw e, rw e)
 
 slice-aggregate-read-bytes : tie.Need-slice-aggregate-read-bytes
 slice-aggregate-read-bytes c = search needs
@@ -17,36 +21,36 @@ slice-aggregate-read-bytes c = search needs
 read-bytes-requires : tie.Need-read-bytes-requires
 read-bytes-requires c κs = search needs
 
-finish-requires : tie.Need-finish-requires
-finish-requires c κs = search needs
+is-complete-requires : tie.Need-is-complete-requires
+is-complete-requires c κs = search needs
 
-enum-told : tie.Need-enum-told
-enum-told c = search needs
-
-enum-told-2 : tie.Need-enum-told-2
-enum-told-2 c = search needs
+at-end-requires : tie.Need-at-end-requires
+at-end-requires c κs = search needs
 
 returns-2 : tie.Need-returns-2
 returns-2 c =
-    let a = c .before .before .before .before .before .before .before .before .args in
-    let d = c .before .before .before .before .read-bytes in
-    let o : Outcome = ending (d .result) (d .last .1 .1 .0) in
-    let h : readFile (a .p) (a .limit) (a .s .now) ≡ o = read-ends (a .p) (a .limit) (a .s .now) o (c .before .before .before .before .before .before .if1 .left) (d .ensures .0) in
-    let f : c .before .before .finish .result ≡ replyOf (a .file) o = c .before .before .finish .ensures (d .last .1 .1 .0) in (
-      f ∙ ap (replyOf (a .file)) (sym h),
-      sym (ap (λ (x : Outcome). formOf x (a .t .now)) h ∙ form-accepted (a .file) (d .result) (d .last .1 .1 .0) (a .t .now) (sym f ∙ c .enum-told .given .1)),
-    )
+    let a = c .before .before .before .before .before .before .before .before .before .args in
+    let d = c .before .before .before .before .before .read-bytes in
+    let g = c .before .at-end in
+    let begun : Read = record { progress = a .p; form = blankForm } in
+    let e =
+        read-accepted tableRules (a .file) (a .limit) begun (a .s .now) (reading (d .result) (d .last .1 .1 .0)) (c .before .before .before .before .before .before .before .if1 .left) (d .ensures .0)
+        (g .result) (g .ensures ∙ ap (verdict (d .result .lines)) (c .before .before .is-complete .ensures)) (c .if2 .taken) in
+    (rw e, rw e)
+
+add-t16 : tie.Need-add-t16
+add-t16 c = search needs
 
 returns-3 : tie.Need-returns-3
 returns-3 c =
-    let a = c .before .before .before .before .before .before .before .before .args in
-    let d = c .before .before .before .before .read-bytes in
-    let o : Outcome = ending (d .result) (d .last .1 .1 .0) in
-    let h : readFile (a .p) (a .limit) (a .s .now) ≡ o = read-ends (a .p) (a .limit) (a .s .now) o (c .before .before .before .before .before .before .if1 .left) (d .ensures .0) in
-    let f : c .before .before .finish .result ≡ replyOf (a .file) o = c .before .before .finish .ensures (d .last .1 .1 .0) in (
-      f ∙ ap (replyOf (a .file)) (sym h),
-      sym (ap (λ (x : Outcome). formOf x (a .t .now)) h ∙ form-refused (a .file) o (a .t .now) _ _ _ (sym f ∙ c .enum-told2 .given .1)),
-    )
+    let a = c .before .before .before .before .before .before .before .before .before .before .args in
+    let d = c .before .before .before .before .before .before .read-bytes in
+    let g = c .before .before .at-end in
+    let begun : Read = record { progress = a .p; form = blankForm } in
+    let e =
+        read-refused tableRules (a .file) (a .limit) begun (a .s .now) (reading (d .result) (d .last .1 .1 .0)) (c .before .before .before .before .before .before .before .before .if1 .left) (d .ensures .0)
+        (g .result) (g .ensures ∙ ap (verdict (d .result .lines)) (c .before .before .before .is-complete .ensures)) (c .before .if2 .left) in
+    (rw e, rw e)
 
 pub read-file-spec : {M : Type 1} → statement M
 read-file-spec =
@@ -55,8 +59,8 @@ read-file-spec =
     returns
     slice-aggregate-read-bytes
     read-bytes-requires
-    finish-requires
-    enum-told
-    enum-told-2
+    is-complete-requires
+    at-end-requires
     returns-2
+    add-t16
     returns-3)

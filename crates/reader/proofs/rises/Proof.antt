@@ -1,7 +1,7 @@
 -- `reader::rises` meets its contract. Assumes nothing.
 use mathlib.Core.Path.{refl}
 use Rattle.reader.proofs.rises.Statement.{statement}
-use Rattle.reader.specs.Rules.{inOrder}
+use Rattle.reader.specs.TableRules.{inOrder}
 use Rattle.reader.proofs.rises.Tie as tie
 
 returns : tie.Need-returns

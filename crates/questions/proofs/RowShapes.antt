@@ -10,7 +10,7 @@ use Rattle.forms.specs.Shapes.{useOf, shapeOf}
 use Rattle.forms.specs.QuestionForm.{row}
 use Rattle.forms.proofs.KindTable.{Means, shape-kind}
 use Rattle.questions.specs.declared.Counts.{Counts}
-use Rattle.questions.specs.Rules.{judgeField, firstOf, judgeRow}
+use Rattle.questions.specs.QuestionRules.{judgeField, firstOf, judgeRow}
 
 -- the refusal of a row whose kind is one of the fourteen, in the code's terms
 pub judge-shape : (c : Counts) (n k a b : ℕ) → inside 14 k ≡ true

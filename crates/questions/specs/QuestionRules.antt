@@ -2,10 +2,13 @@
 -- Assumes nothing.
 use Prim.Native.Nat.{ℕ}
 use mathlib.Core.Bool.{cond}
+use mathlib.Core.List.{List}
 use lib.Dec.{eqb}
+use lib.ListN.{getD}
 use Rattle.automata.specs.Questions.{Row, Use, kindOf}
 use Rattle.automata.specs.Questions.Use.{locationNumber, registerNumber, constantNumber, rowNumber, unused}
 use Rattle.automata.specs.WellFormed.{inside}
+use Rattle.forms.specs.QuestionForm.{row}
 use Rattle.questions.specs.declared.Counts.{Counts}
 
 -- the refusal, or 0 where x counts from 1 up to most
@@ -30,3 +33,11 @@ judgeRow c n r =
     cond (inside 14 (r .kind))
     (firstOf (judgeField c n (kindOf (r .kind) .first) (r .first)) (judgeField c n (kindOf (r .kind) .second) (r .second)))
     5
+
+-- the row of a line
+abbrev pub rowIn : List ℕ → Row
+rowIn f = row (getD f 0 0) (getD f 1 0) (getD f 2 0)
+
+-- the refusal of a line of so many fields whose numbers are f, or 0, where n rows stand before: a row is a line of three fields
+unfoldable pub judgeFields : Counts → ℕ → ℕ → List ℕ → ℕ
+judgeFields c n count f = cond (eqb count 3) (judgeRow c n (rowIn f)) 2

@@ -3,11 +3,9 @@
 use Prim.Native.Nat.{ℕ, _+_, _*_}
 use mathlib.Core.Bool.{Bool, cond, not, _&&_, _||_}
 use mathlib.Core.List.{List}
-use mathlib.Core.Option.{Option, some, none}
 use lib.Dec.{leb, ltb, eqb}
-use lib.ListN.{length, getD, set}
+use lib.ListN.{getD, set}
 use Rattle.automata.specs.WellFormed.{inside}
-use Rattle.fields.specs.Format.{padded}
 use Rattle.reader.specs.declared.Progress.{Progress}
 use Rattle.forms.specs.TableForm.{cell}
 
@@ -61,11 +59,6 @@ judgeValues p f =
 unfoldable pub judgeLine : Progress → ℕ → List ℕ → ℕ
 judgeLine p n f = cond (expected p (at f 0) n) (judgeValues p f) 2
 
--- the refusal of what stands on a line, or 0
-unfoldable pub judge : Progress → Option (List ℕ) → ℕ
-judge p none = 2
-judge p (some fs) = judgeLine p (length fs) (padded fs)
-
 -- the row of the form for a line of kind k with the first number n
 unfoldable pub home : Progress → ℕ → ℕ → ℕ
 home p k n =
@@ -86,7 +79,6 @@ put t row f =
 unfoldable pub advance : Progress → List ℕ → ℕ → Progress
 advance p f a =
     record {
-      line = p .line + 1;
       registers = cond (eqb (at f 0) 1) (at f 1) (p .registers);
       constants = cond (eqb (at f 0) 1) (at f 2) (p .constants);
       locations = cond (eqb (at f 0) 1) (at f 3) (p .locations);
@@ -102,8 +94,8 @@ advance p f a =
     }
 
 -- the progress after a line with the numbers f, where t is the form so far: the row of action i has its parameters
-abbrev pub accepted : Progress → List ℕ → List ℕ → Progress
-accepted p f t = advance p f (cell t (2 + at f 2) 1)
+abbrev pub further : Progress → List ℕ → List ℕ → Progress
+further p f t = advance p f (cell t (2 + at f 2) 1)
 
 -- with the row of a line in its place
 abbrev pub placed : Progress → List ℕ → List ℕ → List ℕ
@@ -112,12 +104,12 @@ placed p f t = put t (home p (at f 0) (at f 1)) f
 -- nothing is read yet
 abbrev pub atStart : Progress
 atStart =
-    record { line = 0; registers = 0; constants = 0; locations = 0; actions = 0; transitions = 0; last = 0; ids = 0; acts = 0; transition = 0; conds = 0; params = 0; newest = 0 }
+    record { registers = 0; constants = 0; locations = 0; actions = 0; transitions = 0; last = 0; ids = 0; acts = 0; transition = 0; conds = 0; params = 0; newest = 0 }
 
 -- before the line 4 of a target, where the table has these counts: as if all lines 3 were read, and with no transition to come
 abbrev pub beforeTarget : ℕ → ℕ → ℕ → Progress
 beforeTarget r c l =
-    record { line = 0; registers = r; constants = c; locations = l; actions = 0; transitions = 0; last = 3; ids = 0; acts = 0; transition = 0; conds = 0; params = 0; newest = 0 }
+    record { registers = r; constants = c; locations = l; actions = 0; transitions = 0; last = 3; ids = 0; acts = 0; transition = 0; conds = 0; params = 0; newest = 0 }
 
 -- the file may end here
 unfoldable pub complete : Progress → Bool
