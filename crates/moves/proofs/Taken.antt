@@ -1,10 +1,9 @@
 -- The run along the first shortest walk is the one that document 01 takes (`taken`), and only one run is (`one-taken`).
 -- Assumes nothing.
 use Prim.Native.Nat.{ℕ, _+_, _<_}
-use mathlib.Core.Bool.{Bool}
 use mathlib.Core.List.{List, [], _∷_, _++_, map, append-nil, append-assoc, List·Memᴰ, List·Memᴰ·head}
 use mathlib.Core.Logic.{⊎-map}
-use mathlib.Core.Option.{Option, none, some}
+use mathlib.Core.Option.{some}
 use mathlib.Core.Path.{_≡_, refl, sym, ap, _∙_, subst, subst⁻¹}
 use native.Mathlib.Omega.{arith}
 use lib.Dec.{T}
@@ -21,14 +20,14 @@ use Rattle.classes.proofs.Catalogue.{lists-mem}
 use Rattle.classes.proofs.GivenBack.{contents-given}
 use Rattle.classes.proofs.OneGiven.{one-given}
 use Rattle.automata.specs.Automaton.{Automaton, arity}
-use Rattle.automata.specs.Runs.{State, Move, transitionOf, isStep, after, permitted, initial, follows, final, isRun, Target, Reaches, Shortest}
+use Rattle.automata.specs.Runs.{State, Move, transitionOf, isStep, after, permitted, initial, follows, final, Target, Reaches, Shortest}
 use Rattle.automata.specs.WellFormed.{wellFormed, fitsTarget, Proper, constantCount}
 use Rattle.automata.specs.Configurations.{Configuration, conf, number, numbered, rows, starts, targets, Listed, Related}
 use Rattle.automata.specs.Answers.{nearestTo}
 use Rattle.automata.proofs.Numbering.{numbered-number, rows-length}
 use Rattle.automata.proofs.StepClasses.{makes-few}
 use Rattle.automata.proofs.Bisimulation.{wf-constants, move-makes, step-proper, initial-proper, conf-listed, related-below, forth, target-agrees, start-agrees}
-use Rattle.moves.specs.Moves.{Leads, spelled, Smallest, roomy}
+use Rattle.moves.specs.Moves.{spelled, Smallest, roomy}
 use Rattle.moves.specs.Runs.{states, EachSmallest, origin, onward, walkContents, walkMoves, RunAnswer}
 use Rattle.moves.specs.Taken.{passed, AllSmallest, Taken}
 use Rattle.moves.proofs.Runs.{prints}
