@@ -1,8 +1,8 @@
--- The worked examples that document 01 marks with a star: claims, a test of each by computation, and the table of them.
+-- The worked examples that document 01 marks with a star, and one or more for each kind of row: claims, a test of each by computation, and the table of them.
 -- Assumes nothing.
 use Prim.Native.Nat.{ℕ}
 use mathlib.Core.Bool.{Bool, true, false, _&&_}
-use mathlib.Core.List.{List, [], _∷_, List·Memᴰ}
+use mathlib.Core.List.{List, [], _∷_, _++_, List·Memᴰ}
 use mathlib.Core.Logic.{_↔_}
 use mathlib.Core.Option.{Option, none, some}
 use mathlib.Core.Path.{_≡_}
@@ -18,7 +18,7 @@ use Rattle.classes.specs.Matrix.{matrix, classOfMatrix}
 use Rattle.automata.specs.Automaton.{Term, Condition, Assignment, Automaton}
 use Rattle.automata.specs.Automaton.Term.{register, parameter, constant}
 use Rattle.automata.specs.Runs.{State, Move, Target, Step, Shortest, Never, permitted, initial, isRun, final, hits}
-use Rattle.automata.specs.Questions.{Atom, Holds, HoldsAtStarts}
+use Rattle.automata.specs.Questions.{Atom, Row, Holds, HoldsAtStarts, question}
 use Rattle.automata.specs.Questions.Atom.{at, equal}
 use Rattle.automata.specs.WellFormed.{wellFormed, inside, fitsTarget, fitsFormula}
 use Rattle.automata.specs.Configurations.{Configuration, configuration, conf, stepConf, configurations}
@@ -153,8 +153,8 @@ move t ps w = record { transition = t; parameters = ps; valuation = w }
 
 -- Document 01, the examples marked with a star, in its order
 
-abbrev pub examples : List Claim
-examples =
+abbrev pub starred : List Claim
+starred =
     classCount 5 2 674
     ∷ classCount 5 0 52
     ∷ classCount 0 2 1
@@ -169,3 +169,56 @@ examples =
     ∷ fails sample (EG (atom (equal 1 1)))
     ∷ holds sample (AF (atom (at 3)))
     ∷ []
+
+-- For each kind of row that these do not touch, what holds at the sample's start and what does not
+
+abbrev pub asked : ℕ → ℕ → ℕ → Row
+asked kind first second = record { kind = kind; first = first; second = second }
+
+-- the kind of a row on the places p and q, and on p alone
+abbrev pub onPlaces : ℕ → ℕ → ℕ → Formula Atom
+onPlaces kind p q = question (asked 1 p 0 ∷ asked 1 q 0 ∷ asked kind 1 2 ∷ [])
+
+abbrev pub onPlace : ℕ → ℕ → Formula Atom
+onPlace kind p = question (asked 1 p 0 ∷ asked kind 1 0 ∷ [])
+
+abbrev pub ofKinds : List Claim
+ofKinds =
+    -- 3: the translator is nobody; at every next moment the reviser is, and the translator is not
+    holds sample (question (asked 3 1 1 ∷ []))
+    ∷ holds sample (question (asked 3 2 1 ∷ asked 11 1 0 ∷ []))
+    ∷ fails sample (question (asked 3 1 1 ∷ asked 6 1 0 ∷ []))
+    -- 5 and 4
+    ∷ fails sample (onPlaces 5 1 2)
+    ∷ holds sample (onPlace 4 2)
+    -- 6, EX: one step leads to place 2, not to place 3, and none stays at place 1
+    ∷ holds sample (onPlace 6 2)
+    ∷ fails sample (onPlace 6 3)
+    ∷ fails sample (onPlace 6 1)
+    -- 7, E U: place 1 until place 2; not place 1 until place 3; with no step at all place 3 until place 1
+    ∷ holds sample (onPlaces 7 1 2)
+    ∷ fails sample (onPlaces 7 1 3)
+    ∷ holds sample (onPlaces 7 3 1)
+    -- 9, or
+    ∷ holds sample (onPlaces 9 1 2)
+    ∷ holds sample (onPlaces 9 2 1)
+    ∷ fails sample (onPlaces 9 2 3)
+    -- 10, implies
+    ∷ fails sample (onPlaces 10 1 2)
+    ∷ holds sample (onPlaces 10 2 1)
+    ∷ holds sample (onPlaces 10 2 3)
+    -- 11, AX: also where nothing can follow, as after two steps
+    ∷ holds sample (onPlace 11 2)
+    ∷ fails sample (onPlace 11 3)
+    ∷ holds sample (question (asked 1 1 0 ∷ asked 11 1 0 ∷ asked 11 2 0 ∷ asked 11 3 0 ∷ []))
+    -- 12, EF: place 3; with no step place 1; never place 3 with equal registers
+    ∷ holds sample (onPlace 12 3)
+    ∷ holds sample (onPlace 12 1)
+    ∷ fails sample (question (asked 1 3 0 ∷ asked 2 1 2 ∷ asked 5 1 2 ∷ asked 12 3 0 ∷ []))
+    -- 13, AG: never at place 3 with equal registers; not always at place 1
+    ∷ holds sample (question (asked 1 3 0 ∷ asked 2 1 2 ∷ asked 5 1 2 ∷ asked 4 3 0 ∷ asked 13 4 0 ∷ []))
+    ∷ fails sample (onPlace 13 1)
+    ∷ []
+
+abbrev pub examples : List Claim
+examples = starred ++ ofKinds
