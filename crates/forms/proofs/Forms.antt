@@ -270,10 +270,18 @@ module _ (t : List ℕ) where
         let m : Limits a = form-limits in
         conditions-wider (constantCount a) (a .registers) 0 (m .constants) (m .registers) (omega arith) (a .starting) (search (and-l, and-r))
 
+    pub start-lines : T (allOf (fitsCondition 2 5 3) (targetOf t .conditions))
+    unfolding targetOf
+    start-lines = starting-fits
+
   -- a table's form is that of a target too: its location and conditions are those of the start
   pub start-target : targetOf t ≡ record { location = automatonOf t .start; conditions = automatonOf t .starting }
   unfolding automatonOf targetOf
   start-target = refl
+
+  pub target-few : length (targetOf t .conditions) ≤ 8
+  unfolding targetOf
+  target-few = lines-le (conditionAt t) t startingRows 8
 
   pub starting-is : automatonOf t .starting ≡ conditionsFrom t startingRows
   unfolding automatonOf

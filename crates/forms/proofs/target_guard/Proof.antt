@@ -2,10 +2,9 @@
 -- Assumes nothing.
 use mathlib.Core.Path.{subst⁻¹}
 use native.Mathlib.Omega.{arith}
-use Rattle.forms.specs.TableForm.{startingRows, conditionAt, targetOf}
-use Rattle.forms.specs.Slots.{FitsGuard, conditionsFrom}
-use Rattle.forms.proofs.Encoding.{lines-le}
-use Rattle.forms.proofs.Forms.{guard-fits}
+use Rattle.forms.specs.TableForm.{targetOf}
+use Rattle.forms.specs.Slots.{FitsGuard}
+use Rattle.forms.proofs.Forms.{guard-fits, target-few}
 use Rattle.forms.proofs.target_guard.Statement.{statement}
 use Rattle.forms.proofs.target_guard.Tie as tie
 use Rattle.forms.proofs.target_guard.Reads as reads
@@ -21,7 +20,7 @@ unfolding targetOf
 returns c =
     let e = c .before .before in
     let t = e .args .form .now in
-    (c .guard-at .ensures, subst⁻¹ FitsGuard (c .guard-at .ensures) (guard-fits (conditionsFrom t startingRows) (lines-le (conditionAt t) t startingRows 8) (e .pre .1)))
+    (c .guard-at .ensures, subst⁻¹ FitsGuard (c .guard-at .ensures) (guard-fits (targetOf t .conditions) (target-few t) (e .pre .1)))
 
 pub target-guard-spec : {M : Type 1} → statement M
 target-guard-spec = tie.close (tie.spec guard-at-requires returns)

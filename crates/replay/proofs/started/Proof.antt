@@ -3,8 +3,7 @@
 use mathlib.Core.Path.{_≡_}
 use native.Mathlib.Omega.{arith}
 use lib.ListN.{length}
-use Rattle.forms.specs.TableForm.{targetOf}
-use Rattle.forms.proofs.Forms.{starting-fits}
+use Rattle.forms.proofs.Forms.{start-lines}
 use Rattle.replay.proofs.Slots.{start-found}
 use borrow.Author.Needs.{needs}
 use Rattle.replay.proofs.started.Statement.{statement}
@@ -20,8 +19,7 @@ use Rattle.replay.proofs.rest_zero.Reads as rest-zero-reads
 use Rattle.replay.proofs.slot_values.Reads as slot-values-reads
 
 target-guard-requires : tie.Need-target-guard-requires
-unfolding targetOf
-target-guard-requires c κs = let r = c .before .pre in (r .long, starting-fits _ r)
+target-guard-requires c κs = let r = c .before .pre in (r .long, start-lines _ r)
 
 constant-values-requires : tie.Need-constant-values-requires
 constant-values-requires c κs = search needs
