@@ -1,10 +1,10 @@
 -- Laws that the proofs of the functions cite.
-pub mod Words
-pub mod Steps
-pub mod Rounds
+pub mod PackedSets
+pub mod StoredSteps
+pub mod FrontierRounds
 pub mod Tables
 pub mod DeadEnds
-pub mod Rules
+pub mod RowSets
 pub mod Buffer
 pub mod Atoms
-pub mod Asking
+pub mod AnswerRows
