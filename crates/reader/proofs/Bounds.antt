@@ -1,39 +1,57 @@
--- The counters stay small. Assumes nothing.
-use Prim.Native.Nat.{ℕ, _+_, _^_, _≤_, _<_}
+-- The counters stay small; a number that is no kind. Assumes nothing.
+use Prim.Native.Nat.{ℕ, zero, suc, _+_, _^_, _≤_, _<_}
 use mathlib.Core.Bool.{Bool, true, false, cond}
 use native.Mathlib.Omega.{arith}
 use mathlib.Core.List.{List}
-use mathlib.Core.Bool.{_||_}
 use lib.Dec.{eqb}
+use mathlib.Core.Logic.{_≢_}
+use mathlib.Core.Path.{_≡_, refl}
 use Rattle.reader.specs.TableRead.{Small}
 use Rattle.reader.specs.declared.Progress.{Progress}
-use Rattle.reader.specs.TableRules.{at, home, advance}
+use Rattle.reader.specs.declared.Kind.{Kind}
+use Rattle.reader.specs.TableRules.{at, noKind, kindOf, kindAt, advance}
 
 -- a choice between two numbers is at most m where both are
-pub cond-le : (c : Bool) {a b m : ℕ} → a ≤ m → b ≤ m → cond c a b ≤ m
+cond-le : (c : Bool) {a b m : ℕ} → a ≤ m → b ≤ m → cond c a b ≤ m
 cond-le true p q = p
 cond-le false p q = q
 
-pub home-low : (p : Progress) (k n : ℕ) → Small p 50000 → n < 2 ^ 32 → home p k n ≤ 2 ^ 40
-unfolding home
-home-low p k n s h =
-    cond-le (eqb k 1) (omega arith)
-    (cond-le (eqb k 2) (omega arith)
-    (cond-le (eqb k 3) (omega arith)
-    (cond-le (eqb k 4) (omega arith)
-    (cond-le (eqb k 5) (omega arith)
-    (cond-le (eqb k 6) (omega arith)
-    (cond-le (eqb k 7) (omega arith) (omega arith)))))))
+pub row-low : (p : Progress) (k n : ℕ) → Small p 50000 → n < 2 ^ 32 → kindAt p k n .row ≤ 2 ^ 40
+unfolding kindAt
+row-low p zero n s h = omega arith
+row-low p (suc zero) n s h = omega arith
+row-low p (suc (suc zero)) n s h = omega arith
+row-low p (suc (suc (suc zero))) n s h = omega arith
+row-low p (suc (suc (suc (suc zero)))) n s h = omega arith
+row-low p (suc (suc (suc (suc (suc zero))))) n s h = omega arith
+row-low p (suc (suc (suc (suc (suc (suc zero)))))) n s h = omega arith
+row-low p (suc (suc (suc (suc (suc (suc (suc zero))))))) n s h = omega arith
+row-low p (suc (suc (suc (suc (suc (suc (suc (suc zero)))))))) n s h = omega arith
+row-low p (suc (suc (suc (suc (suc (suc (suc (suc (suc k))))))))) n s h = omega arith
 
 pub small-weaken : (p : Progress) (n m : ℕ) → n ≤ m → Small p n → Small p m
-small-weaken p n m h s = record { ids-small = omega arith; acts-small = omega arith; transition-small = omega arith; conds-small = omega arith }
+small-weaken p n m h s = record { ids-small = omega arith; acts-small = omega arith; transition-small = omega arith; place-small = omega arith; conds-small = omega arith }
 
-pub small-advance : (p : Progress) (f : List ℕ) (a n : ℕ) → Small p n → Small (advance p f a) (n + 1)
+pub small-advance : (p : Progress) (k : Kind) (f : List ℕ) (a n : ℕ) → Small p n → Small (advance p k f a) (n + 1)
 unfolding advance
-small-advance p f a n s =
+small-advance p k f a n s =
     record {
       ids-small = cond-le (eqb (at f 0) 2) (omega arith) (omega arith);
       acts-small = cond-le (eqb (at f 0) 3) (omega arith) (omega arith);
       transition-small = cond-le (eqb (at f 0) 6) (omega arith) (omega arith);
-      conds-small = cond-le (eqb (at f 0) 6) (omega arith) (cond-le (eqb (at f 0) 5 || eqb (at f 0) 7) (omega arith) (omega arith));
+      place-small = cond-le (eqb (at f 0) 6) (omega arith) (omega arith);
+      conds-small = cond-le (eqb (at f 0) 6) (omega arith) (cond-le (k .condition) (omega arith) (omega arith));
     }
+
+-- a number that is no kind
+pub other : (k : ℕ) → k ≢ 1 → k ≢ 2 → k ≢ 3 → k ≢ 4 → k ≢ 5 → k ≢ 6 → k ≢ 7 → k ≢ 8 → kindOf k ≡ noKind
+other zero a b c d e f g h = refl
+other (suc zero) a b c d e f g h = absurd (a refl)
+other (suc (suc zero)) a b c d e f g h = absurd (b refl)
+other (suc (suc (suc zero))) a b c d e f g h = absurd (c refl)
+other (suc (suc (suc (suc zero)))) a b c d e f g h = absurd (d refl)
+other (suc (suc (suc (suc (suc zero))))) a b c d e f g h = absurd (e refl)
+other (suc (suc (suc (suc (suc (suc zero)))))) a b c d e f g h = absurd (f refl)
+other (suc (suc (suc (suc (suc (suc (suc zero))))))) a b c d e f g h = absurd (g refl)
+other (suc (suc (suc (suc (suc (suc (suc (suc zero)))))))) a b c d e f g h = absurd (h refl)
+other (suc (suc (suc (suc (suc (suc (suc (suc (suc k))))))))) a b c d e f g h = refl

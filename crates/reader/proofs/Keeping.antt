@@ -1,6 +1,6 @@
 -- What holds of the progress and the form after every accepted line: the invariants behind `legal`.
 -- Assumes nothing.
-use Prim.Native.Nat.{ℕ, _+_, _*_, _≤_, _<_}
+use Prim.Native.Nat.{ℕ, _+_, _*_, _-_, _≤_, _<_}
 use mathlib.Core.Bool.{Bool, true, false}
 use mathlib.Core.List.{List}
 use mathlib.Core.Logic.{_≢_, _⊎_, inl, inr}
@@ -13,7 +13,7 @@ use lib.Dec.{leb, eqb}
 use lib.ListN.{length}
 use Rattle.reader.specs.declared.Progress.{Progress}
 use Rattle.forms.specs.TableForm.{cell}
-use Rattle.reader.specs.TableRules.{at, home, put, advance, further, placed}
+use Rattle.reader.specs.TableRules.{at, kindAt, put, advance, further, placed}
 use Rattle.reader.proofs.Accepted.{Inside, Stands, line1, line2, line3, line4, line5, line6, line7, line8}
 use Rattle.fields.proofs.Digits.{Low}
 use Rattle.reader.proofs.Rows.{rowAt, six, length-put, kept, written, low-put}
@@ -30,65 +30,64 @@ pub record Counted (p : Progress) : Type 0 where
   pub acts-low : p .acts ≤ p .actions
   pub transition-low : p .transition ≤ p .transitions
   pub conds-low : p .conds ≤ 8
-  pub none-yet : p .last ≡ 0 → (p .ids ≡ 0) × (p .acts ≡ 0)
-  pub unread : p .last ≤ 4 → p .conds ≡ 0
-  pub early : p .last ≤ 5 → (p .params ≡ 0) × (p .transition ≡ 0)
-  pub late : 6 ≤ p .last → 1 ≤ p .transition
-  pub acted : 4 ≤ p .last → p .actions ≤ p .acts
+  pub none-yet : p .stage ≤ 1 → (p .ids ≡ 0) × (p .acts ≡ 0)
+  pub unread : p .stage ≤ 3 → p .conds ≡ 0
+  pub early : p .stage ≤ 4 → (p .params ≡ 0) × (p .transition ≡ 0)
+  pub late : 5 ≤ p .stage → p .place + 1 ≡ p .transition
+  pub acted : 4 ≤ p .stage → p .actions ≤ p .acts
 
--- a line 3 that is missing stands before line 4
-pub early-last : (p : Progress) → Counted p → p .acts < p .actions → p .last ≤ 3
-early-last p s h = by (leb 4 (p .last)) refl
+-- after a constant
+past-first : (p : Progress) → Counted p → 1 ≤ p .ids → 2 ≤ p .stage
+past-first p s h = by (leb 2 (p .stage)) refl
   where
-    by : (b : Bool) → leb 4 (p .last) ≡ b → p .last ≤ 3
-    by true z = absurd (omega (arith, s .acted (leb-true 4 (p .last) z)))
-    by false z = omega (arith, leb-false 4 (p .last) z)
+    by : (b : Bool) → leb 2 (p .stage) ≡ b → 2 ≤ p .stage
+    by true z = leb-true 2 (p .stage) z
+    by false z = absurd (omega (arith, s .none-yet (omega (arith, leb-false 2 (p .stage) z))))
 
-counted-step : (p : Progress) (f : List ℕ) (a : ℕ) → Counted p → Stands p f → Counted (advance p f a)
-unfolding advance
-counted-step p f a s (line1 k l b c d e g) = let z = s .none-yet l in let y = s .early (omega arith) in let x = s .unread (omega arith) in rw k (omega arith)
-counted-step p f a s (line2 k h i j) = let y = s .early (omega arith) in let x = s .unread (omega arith) in rw k (omega arith)
-counted-step p f a s (line3 k h i j) =
-    let z = early-last p s i in let y = s .early (omega arith) in let x = s .unread (omega arith) in rw k (omega arith)
+counted-step : (p : Progress) (f : List ℕ) (a : ℕ) → Counted p → Stands p f → Counted (advance p (kindAt p (at f 0) (at f 1)) f a)
+unfolding advance kindAt
+counted-step p f a s (line1 k l b c d e g) = let z = s .none-yet (omega arith) in let y = s .early (omega arith) in let x = s .unread (omega arith) in rw k (omega arith)
+counted-step p f a s (line2 k g h i j) = let y = s .early (omega arith) in let x = s .unread (omega arith) in rw k (omega arith)
+counted-step p f a s (line3 k g h i j m) = let y = s .early (omega arith) in let x = s .unread (omega arith) in rw k (omega arith)
 counted-step p f a s (line4 k h i j) = let y = s .early (omega arith) in let x = s .unread (omega arith) in rw k (omega arith)
-counted-step p f a s (line5 k h i j b c d) = let y = s .early (omega arith) in let x = s .acted h in rw k (omega arith)
+counted-step p f a s (line5 k h j b c d) = let y = s .early (omega arith) in let x = s .acted (omega arith) in rw k (omega arith)
 counted-step p f a s (line6 k h i b c d) = let x = s .acted h in rw k (omega arith)
-counted-step p f a s (line7 k h i j b c d) = let y = s .late h in let x = s .acted (omega arith) in rw k (omega arith)
+counted-step p f a s (line7 k h j b c d) = let y = s .late (omega arith) in let x = s .acted (omega arith) in rw k (omega arith)
 counted-step p f a s (line8 k h b c) = let y = s .late h in let x = s .acted (omega arith) in rw k (omega arith)
 
 -- What the form holds so far, part by part
 
 -- the constants
-pub record Constants (ids newest last : ℕ) (t : List ℕ) : Type 0 where
-  pub second : ids ≡ 1 → last ≤ 2 → newest ≡ cell t 1 1
+pub record Constants (ids newest stage : ℕ) (t : List ℕ) : Type 0 where
+  pub second : ids ≡ 1 → stage ≤ 2 → newest ≡ cell t 1 1
   pub rise : ids ≡ 2 → cell t 1 1 < cell t 2 1
 
 -- the start's conditions, so far
-pub record Starting (r c conds last : ℕ) (t : List ℕ) : Type 0 where
+pub record Starting (r c conds stage : ℕ) (t : List ℕ) : Type 0 where
   pub starts : ℕ
-  pub counts : last ≤ 5 → starts ≡ conds
+  pub counts : stage ≤ 4 → starts ≡ conds
   pub starting : Guarded r 0 c t 20 starts
 
 -- the transitions: earlier ones, the one being read, and no line after it
-pub record Moves (r c l m transition params conds last : ℕ) (t : List ℕ) : Type 0 where
+pub record Moves (r c l m transition params conds stage : ℕ) (t : List ℕ) : Type 0 where
   pub fresh : (x : ℕ) → 28 + 14 * transition ≤ x → cell t x 0 ≡ 0
   pub done : (i : ℕ) → i + 1 < transition → (n q : ℕ) × TransitionRows r c l m t i n q
-  pub current : (i : ℕ) → i + 1 ≡ transition → (n : ℕ) × TransitionRows r c l m t i n params × (last ≤ 7 → n ≡ conds)
+  pub current : (i : ℕ) → i + 1 ≡ transition → (n : ℕ) × TransitionRows r c l m t i n params × (stage ≤ 5 → n ≡ conds)
 
 pub record Sound (p : Progress) (t : List ℕ) : Type 0 where
   pub counted : Counted p
   pub size : length t ≡ 5544
   pub low : Low t
-  pub constants : Constants (p .ids) (p .newest) (p .last) t
+  pub constants : Constants (p .ids) (p .newest) (p .stage) t
   pub arities : (i : ℕ) → i < p .acts → cell t (3 + i) 1 ≤ 3
-  pub start : 4 ≤ p .last → Inside (p .locations) (cell t 19 1)
-  pub starting : Starting (p .registers) (p .constants) (p .conds) (p .last) t
-  pub moves : Moves (p .registers) (p .constants) (p .locations) (p .actions) (p .transition) (p .params) (p .conds) (p .last) t
+  pub start : 4 ≤ p .stage → Inside (p .locations) (cell t 19 1)
+  pub starting : Starting (p .registers) (p .constants) (p .conds) (p .stage) t
+  pub moves : Moves (p .registers) (p .constants) (p .locations) (p .actions) (p .transition) (p .params) (p .conds) (p .stage) t
 
 -- A line that is written
 module _ (t : List ℕ) (row : ℕ) (f : List ℕ) where
-  constants-kept : (ids newest newest′ last last′ : ℕ) → 3 ≤ row → 3 ≤ last′ → Constants ids newest last t → Constants ids newest′ last′ (put t row f)
-  constants-kept ids newest newest′ last last′ h k s =
+  constants-kept : (ids newest newest′ stage stage′ : ℕ) → 3 ≤ row → 3 ≤ stage′ → Constants ids newest stage t → Constants ids newest′ stage′ (put t row f)
+  constants-kept ids newest newest′ stage stage′ h k s =
       record {
         second = λ a b. absurd (omega arith);
         rise = λ a. kept (λ x. cell (put t row f) 1 1 < at x 1) t row f 2 (omega arith) (kept (λ x. at x 1 < cell t 2 1) t row f 1 (omega arith) (s .rise a));
@@ -98,8 +97,8 @@ module _ (t : List ℕ) (row : ℕ) (f : List ℕ) where
       → (i : ℕ) → i < acts → cell (put t row f) (3 + i) 1 ≤ 3
   arities-kept acts w s i h = kept (λ x. at x 1 ≤ 3) t row f (3 + i) (w i h) (s i h)
 
-  start-kept : (l last last′ : ℕ) → 19 ≢ row → (4 ≤ last′ → 4 ≤ last) → (4 ≤ last → Inside l (cell t 19 1)) → 4 ≤ last′ → Inside l (cell (put t row f) 19 1)
-  start-kept l last last′ w o s h = kept (λ x. Inside l (at x 1)) t row f 19 w (s (o h))
+  start-kept : (l stage stage′ : ℕ) → 19 ≢ row → (4 ≤ stage′ → 4 ≤ stage) → (4 ≤ stage → Inside l (cell t 19 1)) → 4 ≤ stage′ → Inside l (cell (put t row f) 19 1)
+  start-kept l stage stage′ w o s h = kept (λ x. Inside l (at x 1)) t row f 19 w (s (o h))
 
   guarded-kept : (r q c b n : ℕ) → ((j : ℕ) → j < 8 → b + j ≢ row) → Guarded r q c t b n → Guarded r q c (put t row f) b n
   guarded-kept r q c b n w s =
@@ -120,9 +119,9 @@ module _ (t : List ℕ) (row : ℕ) (f : List ℕ) where
         rest = λ j k u. kept (λ x. at x 0 ≡ 0) t row f (b + j) (omega arith) (s .rest j (omega arith) u);
       }
 
-  starting-kept : (r c conds conds′ last last′ : ℕ) → ((j : ℕ) → j < 8 → 20 + j ≢ row) → (last′ ≤ 5 → (last ≤ 5) × (conds ≡ conds′))
-      → Starting r c conds last t → Starting r c conds′ last′ (put t row f)
-  starting-kept r c conds conds′ last last′ w o s =
+  starting-kept : (r c conds conds′ stage stage′ : ℕ) → ((j : ℕ) → j < 8 → 20 + j ≢ row) → (stage′ ≤ 4 → (stage ≤ 4) × (conds ≡ conds′))
+      → Starting r c conds stage t → Starting r c conds′ stage′ (put t row f)
+  starting-kept r c conds conds′ stage stage′ w o s =
       record {
         starts = s .starts;
         counts = λ h. s .counts (o h .0) ∙ o h .1;
@@ -130,9 +129,9 @@ module _ (t : List ℕ) (row : ℕ) (f : List ℕ) where
       }
 
   -- before the first transition
-  moves-early : (r c l m r′ c′ l′ m′ tr params params′ conds conds′ last last′ : ℕ) → tr ≡ 0 → row < 28
-      → Moves r c l m tr params conds last t → Moves r′ c′ l′ m′ tr params′ conds′ last′ (put t row f)
-  moves-early r c l m r′ c′ l′ m′ tr params params′ conds conds′ last last′ z h s =
+  moves-early : (r c l m r′ c′ l′ m′ tr params params′ conds conds′ stage stage′ : ℕ) → tr ≡ 0 → row < 28
+      → Moves r c l m tr params conds stage t → Moves r′ c′ l′ m′ tr params′ conds′ stage′ (put t row f)
+  moves-early r c l m r′ c′ l′ m′ tr params params′ conds conds′ stage stage′ z h s =
       record {
         fresh = λ x k. kept (λ y. at y 0 ≡ 0) t row f x (omega arith) (s .fresh x k);
         done = λ i k. absurd (omega arith);
@@ -189,9 +188,9 @@ module _ (t : List ℕ) (row : ℕ) (f : List ℕ) where
       by j u false z = assigned-kept r q c j (36 + j + 14 * i) (omega (arith, eqb-false j a z)) (s .assigns j u)
 
   -- a line 6 begins a transition
-  moves-new : (r c l m tr params conds last last′ : ℕ) → m ≤ 16 → row ≡ 28 + 14 * tr → 6 * row + 5 < length t → HeadRow l m (six f)
-      → Moves r c l m tr params conds last t → Moves r c l m (tr + 1) (cell t (2 + at f 2) 1) 0 last′ (put t row f)
-  moves-new r c l m tr params conds last last′ h e w new s =
+  moves-new : (r c l m tr params conds stage stage′ : ℕ) → m ≤ 16 → row ≡ 28 + 14 * tr → 6 * row + 5 < length t → HeadRow l m (six f)
+      → Moves r c l m tr params conds stage t → Moves r c l m (tr + 1) (cell t (2 + at f 2) 1) 0 stage′ (put t row f)
+  moves-new r c l m tr params conds stage stage′ h e w new s =
       record {
         fresh = λ x k. kept (λ y. at y 0 ≡ 0) t row f x (omega arith) (s .fresh x (omega arith));
         done = λ i k. earlier i k;
@@ -222,10 +221,10 @@ module _ (t : List ℕ) (row : ℕ) (f : List ℕ) where
           }
 
   -- a line 7 or 8 belongs to the transition being read
-  moves-within : (r c l m tr params conds conds′ last last′ : ℕ) → m ≤ 16 → 14 + 14 * tr ≤ row → row < 28 + 14 * tr
-      → ((i n : ℕ) → i + 1 ≡ tr → (last ≤ 7 → n ≡ conds) → TransitionRows r c l m t i n params → (n′ : ℕ) × TransitionRows r c l m (put t row f) i n′ params × (last′ ≤ 7 → n′ ≡ conds′))
-      → Moves r c l m tr params conds last t → Moves r c l m tr params conds′ last′ (put t row f)
-  moves-within r c l m tr params conds conds′ last last′ h v w new s =
+  moves-within : (r c l m tr params conds conds′ stage stage′ : ℕ) → m ≤ 16 → 14 + 14 * tr ≤ row → row < 28 + 14 * tr
+      → ((i n : ℕ) → i + 1 ≡ tr → (stage ≤ 5 → n ≡ conds) → TransitionRows r c l m t i n params → (n′ : ℕ) × TransitionRows r c l m (put t row f) i n′ params × (stage′ ≤ 5 → n′ ≡ conds′))
+      → Moves r c l m tr params conds stage t → Moves r c l m tr params conds′ stage′ (put t row f)
+  moves-within r c l m tr params conds conds′ stage stage′ h v w new s =
       record {
         fresh = λ x k. kept (λ y. at y 0 ≡ 0) t row f x (omega arith) (s .fresh x k);
         done = λ i k. let u = s .done i k in (u .0, u .1, rows-kept r c l m i (u .0) (u .1) h (omega arith) (u .2));
@@ -237,12 +236,12 @@ module _ (p : Progress) (f t : List ℕ) (s : Sound p t) where
   n : Counted p
   n = s .counted
 
-  constants-step : Stands p f → Constants (further p f t .ids) (further p f t .newest) (further p f t .last) (placed p f t)
-  unfolding advance home
+  constants-step : Stands p f → Constants (further p f t .ids) (further p f t .newest) (further p f t .stage) (placed p f t)
+  unfolding advance kindAt
   constants-step (line1 k l b c d e g) =
-      let z = n .none-yet l in
+      let z = n .none-yet (omega arith) in
       rw k (record { second = λ a b. absurd (omega arith); rise = λ a. absurd (omega arith) })
-  constants-step (line2 k h i j) =
+  constants-step (line2 k g h i j) =
       let w : 6 * (1 + p .ids) + 5 < length t = omega (arith, s .size, n .constants-low) in
       rw k
       (record {
@@ -252,44 +251,44 @@ module _ (p : Progress) (f t : List ℕ) (s : Sound p t) where
             subst (λ x. cell (put t (1 + p .ids) f) 1 1 < cell (put t (1 + p .ids) f) x 1) e
             (written t (1 + p .ids) f w (λ x. cell (put t (1 + p .ids) f) 1 1 < at x 1)
             (kept (λ x. at x 1 < at f 1) t (1 + p .ids) f 1 (omega arith)
-            (omega (arith, j (omega arith), s .constants .second (omega arith) h))));
+            (omega (arith, j (omega (arith, past-first p n (omega arith))), s .constants .second (omega arith) h))));
       })
-  constants-step (line3 k h i j) = rw k (constants-kept t (3 + p .acts) f _ _ _ _ _ (omega arith) (omega arith) (s .constants))
+  constants-step (line3 k g h i j m) = rw k (constants-kept t (3 + p .acts) f _ _ _ _ _ (omega arith) (omega arith) (s .constants))
   constants-step (line4 k h i j) = rw k (constants-kept t 19 f _ _ _ _ _ (omega arith) (omega arith) (s .constants))
-  constants-step (line5 k h i j b c d) = rw k (constants-kept t (20 + p .conds) f _ _ _ _ _ (omega arith) (omega arith) (s .constants))
+  constants-step (line5 k h j b c d) = rw k (constants-kept t (20 + p .conds) f _ _ _ _ _ (omega arith) (omega arith) (s .constants))
   constants-step (line6 k h i b c d) = rw k (constants-kept t (28 + 14 * p .transition) f _ _ _ _ _ (omega arith) (omega arith) (s .constants))
-  constants-step (line7 k h i j b c d) = rw k (constants-kept t (15 + 14 * p .transition + p .conds) f _ _ _ _ _ (omega arith) (omega arith) (s .constants))
-  constants-step (line8 k h b c) = rw k (constants-kept t (22 + 14 * p .transition + at f 1) f _ _ _ _ _ (omega arith) (omega arith) (s .constants))
+  constants-step (line7 k h j b c d) = rw k (constants-kept t (29 + 14 * p .place + p .conds) f _ _ _ _ _ (omega arith) (omega arith) (s .constants))
+  constants-step (line8 k h b c) = rw k (constants-kept t (37 + 14 * p .place + at f 1 - 1) f _ _ _ _ _ (omega arith) (omega arith) (s .constants))
 
   arities-step : Stands p f → (i : ℕ) → i < further p f t .acts → cell (placed p f t) (3 + i) 1 ≤ 3
-  unfolding advance home
-  arities-step (line1 k l b c d e g) = let z = n .none-yet l in rw k (λ i h. absurd (omega arith))
-  arities-step (line2 k h i j) = rw k (arities-kept t (1 + p .ids) f (p .acts) (λ x y. omega (arith, n .constants-low)) (s .arities))
-  arities-step (line3 k h i j) =
+  unfolding advance kindAt
+  arities-step (line1 k l b c d e g) = let z = n .none-yet (omega arith) in rw k (λ i h. absurd (omega arith))
+  arities-step (line2 k g h i j) = rw k (arities-kept t (1 + p .ids) f (p .acts) (λ x y. omega (arith, n .constants-low)) (s .arities))
+  arities-step (line3 k g h i j m) =
       let w : 6 * (3 + p .acts) + 5 < length t = omega (arith, s .size, n .actions-low) in
       rw k
       (below-more (λ x. cell (put t (3 + p .acts) f) (3 + x) 1 ≤ 3) (p .acts)
       (arities-kept t (3 + p .acts) f (p .acts) (λ x y. omega arith) (s .arities))
-      (written t (3 + p .acts) f w (λ x. at x 1 ≤ 3) j))
+      (written t (3 + p .acts) f w (λ x. at x 1 ≤ 3) m))
   arities-step (line4 k h i j) = rw k (arities-kept t 19 f (p .acts) (λ x y. omega (arith, n .acts-low, n .actions-low)) (s .arities))
-  arities-step (line5 k h i j b c d) = rw k (arities-kept t (20 + p .conds) f (p .acts) (λ x y. omega (arith, n .acts-low, n .actions-low)) (s .arities))
+  arities-step (line5 k h j b c d) = rw k (arities-kept t (20 + p .conds) f (p .acts) (λ x y. omega (arith, n .acts-low, n .actions-low)) (s .arities))
   arities-step (line6 k h i b c d) = rw k (arities-kept t (28 + 14 * p .transition) f (p .acts) (λ x y. omega (arith, n .acts-low, n .actions-low)) (s .arities))
-  arities-step (line7 k h i j b c d) = rw k (arities-kept t (15 + 14 * p .transition + p .conds) f (p .acts) (λ x y. omega (arith, n .acts-low, n .actions-low, n .late h)) (s .arities))
-  arities-step (line8 k h b c) = rw k (arities-kept t (22 + 14 * p .transition + at f 1) f (p .acts) (λ x y. omega (arith, n .acts-low, n .actions-low)) (s .arities))
+  arities-step (line7 k h j b c d) = rw k (arities-kept t (29 + 14 * p .place + p .conds) f (p .acts) (λ x y. omega (arith, n .acts-low, n .actions-low)) (s .arities))
+  arities-step (line8 k h b c) = rw k (arities-kept t (37 + 14 * p .place + at f 1 - 1) f (p .acts) (λ x y. omega (arith, n .acts-low, n .actions-low)) (s .arities))
 
-  start-step : Stands p f → 4 ≤ further p f t .last → Inside (further p f t .locations) (cell (placed p f t) 19 1)
-  unfolding advance home
+  start-step : Stands p f → 4 ≤ further p f t .stage → Inside (further p f t .locations) (cell (placed p f t) 19 1)
+  unfolding advance kindAt
   start-step (line1 k l b c d e g) = rw k (λ h. absurd (omega arith))
-  start-step (line2 k h i j) = rw k (λ x. absurd (omega arith))
-  start-step (line3 k h i j) = rw k (λ x. absurd (omega arith))
+  start-step (line2 k g h i j) = rw k (λ x. absurd (omega arith))
+  start-step (line3 k g h i j m) = rw k (λ x. absurd (omega arith))
   start-step (line4 k h i j) = rw k (λ x. written t 19 f (omega (arith, s .size)) (λ y. Inside (p .locations) (at y 1)) j)
-  start-step (line5 k h i j b c d) = rw k (start-kept t (20 + p .conds) f _ _ 5 (omega arith) (λ x. h) (s .start))
-  start-step (line6 k h i b c d) = rw k (start-kept t (28 + 14 * p .transition) f _ _ 6 (omega arith) (λ x. h) (s .start))
-  start-step (line7 k h i j b c d) = rw k (start-kept t (15 + 14 * p .transition + p .conds) f _ _ 7 (omega (arith, n .late h)) (λ x. omega arith) (s .start))
-  start-step (line8 k h b c) = rw k (start-kept t (22 + 14 * p .transition + at f 1) f _ _ 8 (omega arith) (λ x. omega arith) (s .start))
+  start-step (line5 k h j b c d) = rw k (start-kept t (20 + p .conds) f _ _ 4 (omega arith) (λ x. omega arith) (s .start))
+  start-step (line6 k h i b c d) = rw k (start-kept t (28 + 14 * p .transition) f _ _ 5 (omega arith) (λ x. h) (s .start))
+  start-step (line7 k h j b c d) = rw k (start-kept t (29 + 14 * p .place + p .conds) f _ _ 5 (omega arith) (λ x. omega arith) (s .start))
+  start-step (line8 k h b c) = rw k (start-kept t (37 + 14 * p .place + at f 1 - 1) f _ _ 6 (omega arith) (λ x. omega arith) (s .start))
 
-  starting-step : Stands p f → Starting (further p f t .registers) (further p f t .constants) (further p f t .conds) (further p f t .last) (placed p f t)
-  unfolding advance home
+  starting-step : Stands p f → Starting (further p f t .registers) (further p f t .constants) (further p f t .conds) (further p f t .stage) (placed p f t)
+  unfolding advance kindAt
   starting-step (line1 k l b c d e g) =
       let z = n .unread (omega arith) in
       let y = s .starting .counts (omega arith) in
@@ -303,13 +302,13 @@ module _ (p : Progress) (f t : List ℕ) (s : Sound p t) where
           rest = λ j h i. kept (λ x. at x 0 ≡ 0) t 0 f (20 + j) (omega arith) (s .starting .starting .rest j (omega arith) i);
         };
       })
-  starting-step (line2 k h i j) = rw k (starting-kept t (1 + p .ids) f _ _ _ _ _ 2 (λ x y. omega (arith, n .constants-low)) (λ x. (omega arith, refl)) (s .starting))
-  starting-step (line3 k h i j) = rw k (starting-kept t (3 + p .acts) f _ _ _ _ _ 3 (λ x y. omega (arith, n .actions-low)) (λ x. (omega (arith, early-last p n i), refl)) (s .starting))
+  starting-step (line2 k g h i j) = rw k (starting-kept t (1 + p .ids) f _ _ _ _ _ 2 (λ x y. omega (arith, n .constants-low)) (λ x. (omega arith, refl)) (s .starting))
+  starting-step (line3 k g h i j m) = rw k (starting-kept t (3 + p .acts) f _ _ _ _ _ 3 (λ x y. omega (arith, n .actions-low)) (λ x. (omega arith, refl)) (s .starting))
   starting-step (line4 k h i j) = rw k (starting-kept t 19 f _ _ _ _ _ 4 (λ x y. omega arith) (λ x. (omega arith, refl)) (s .starting))
-  starting-step (line5 k h i j b c d) =
-      let e : s .starting .starts ≡ p .conds = s .starting .counts i in
+  starting-step (line5 k h j b c d) =
+      let e : s .starting .starts ≡ p .conds = s .starting .counts (omega arith) in
       let w : 6 * (20 + p .conds) + 5 < length t = omega (arith, s .size) in
-      let z : p .params ≡ 0 = n .early i .0 in
+      let z : p .params ≡ 0 = n .early (omega arith) .0 in
       rw k
       (record {
         starts = s .starting .starts + 1;
@@ -317,41 +316,41 @@ module _ (p : Progress) (f t : List ℕ) (s : Sound p t) where
         starting = guarded-more t (20 + p .conds) f _ 0 _ 20 (s .starting .starts) (omega arith) w (omega arith)
             (record { kind = omega arith; left = rw z at b; relation = c; right = rw z at d }) (s .starting .starting);
       })
-  starting-step (line6 k h i b c d) = rw k (starting-kept t (28 + 14 * p .transition) f _ _ _ _ _ 6 (λ x y. omega arith) (λ x. absurd (omega arith)) (s .starting))
-  starting-step (line7 k h i j b c d) = rw k (starting-kept t (15 + 14 * p .transition + p .conds) f _ _ _ _ _ 7 (λ x y. omega (arith, n .late h)) (λ x. absurd (omega arith)) (s .starting))
-  starting-step (line8 k h b c) = rw k (starting-kept t (22 + 14 * p .transition + at f 1) f _ _ _ _ _ 8 (λ x y. omega (arith, n .late h)) (λ x. absurd (omega arith)) (s .starting))
+  starting-step (line6 k h i b c d) = rw k (starting-kept t (28 + 14 * p .transition) f _ _ _ _ _ 5 (λ x y. omega arith) (λ x. absurd (omega arith)) (s .starting))
+  starting-step (line7 k h j b c d) = rw k (starting-kept t (29 + 14 * p .place + p .conds) f _ _ _ _ _ 5 (λ x y. omega arith) (λ x. absurd (omega arith)) (s .starting))
+  starting-step (line8 k h b c) = rw k (starting-kept t (37 + 14 * p .place + at f 1 - 1) f _ _ _ _ _ 6 (λ x y. omega arith) (λ x. absurd (omega arith)) (s .starting))
 
   moves-step : Stands p f → Moves (further p f t .registers) (further p f t .constants) (further p f t .locations) (further p f t .actions) (further p f t .transition) (further p f t .params)
-      (further p f t .conds) (further p f t .last) (placed p f t)
-  unfolding advance home
+      (further p f t .conds) (further p f t .stage) (placed p f t)
+  unfolding advance kindAt
   moves-step (line1 k l b c d e g) = rw k (moves-early t 0 f _ _ _ _ _ _ _ _ _ _ _ _ _ _ 1 (n .early (omega arith) .1) (omega arith) (s .moves))
-  moves-step (line2 k h i j) = rw k (moves-early t (1 + p .ids) f _ _ _ _ _ _ _ _ _ _ _ _ _ _ 2 (n .early (omega arith) .1) (omega (arith, n .constants-low)) (s .moves))
-  moves-step (line3 k h i j) = rw k (moves-early t (3 + p .acts) f _ _ _ _ _ _ _ _ _ _ _ _ _ _ 3 (n .early (omega (arith, early-last p n i)) .1) (omega (arith, n .actions-low)) (s .moves))
+  moves-step (line2 k g h i j) = rw k (moves-early t (1 + p .ids) f _ _ _ _ _ _ _ _ _ _ _ _ _ _ 2 (n .early (omega arith) .1) (omega (arith, n .constants-low)) (s .moves))
+  moves-step (line3 k g h i j m) = rw k (moves-early t (3 + p .acts) f _ _ _ _ _ _ _ _ _ _ _ _ _ _ 3 (n .early (omega arith) .1) (omega (arith, n .actions-low)) (s .moves))
   moves-step (line4 k h i j) = rw k (moves-early t 19 f _ _ _ _ _ _ _ _ _ _ _ _ _ _ 4 (n .early (omega arith) .1) (omega arith) (s .moves))
-  moves-step (line5 k h i j b c d) = rw k (moves-early t (20 + p .conds) f _ _ _ _ _ _ _ _ _ _ _ _ _ _ 5 (n .early i .1) (omega arith) (s .moves))
+  moves-step (line5 k h j b c d) = rw k (moves-early t (20 + p .conds) f _ _ _ _ _ _ _ _ _ _ _ _ _ _ 4 (n .early (omega arith) .1) (omega arith) (s .moves))
   moves-step (line6 k h i b c d) =
       let w : 6 * (28 + 14 * p .transition) + 5 < length t = omega (arith, s .size, n .transitions-low) in
-      rw k (moves-new t (28 + 14 * p .transition) f _ _ _ _ _ _ _ _ 6 (n .actions-low) refl w (record { from = b; action = c; to = d }) (s .moves))
-  moves-step (line7 k h i j b c d) =
-      let a = n .late h in
-      let w : 6 * (15 + 14 * p .transition + p .conds) + 5 < length t = omega (arith, s .size, n .transitions-low, n .transition-low) in
+      rw k (moves-new t (28 + 14 * p .transition) f _ _ _ _ _ _ _ _ 5 (n .actions-low) refl w (record { from = b; action = c; to = d }) (s .moves))
+  moves-step (line7 k h j b c d) =
+      let a = n .late (omega arith) in
+      let w : 6 * (29 + 14 * p .place + p .conds) + 5 < length t = omega (arith, s .size, n .transitions-low, n .transition-low) in
       rw k
-      (moves-within t (15 + 14 * p .transition + p .conds) f _ _ _ _ _ _ _ _ _ 7 (n .actions-low) (omega arith) (omega arith)
-      (λ x y e g v. let z : y ≡ p .conds = g i in (
+      (moves-within t (29 + 14 * p .place + p .conds) f _ _ _ _ _ _ _ _ _ 5 (n .actions-low) (omega arith) (omega arith)
+      (λ x y e g v. let z : y ≡ p .conds = g (omega arith) in (
         y + 1,
-        rows-guard t (15 + 14 * p .transition + p .conds) f _ _ _ _ x y _ (n .actions-low) (omega arith) w (omega arith)
+        rows-guard t (29 + 14 * p .place + p .conds) f _ _ _ _ x y _ (n .actions-low) (omega arith) w (omega arith)
             (record { kind = omega arith; left = b; relation = c; right = d }) v,
         λ u. omega arith,
       ))
       (s .moves))
   moves-step (line8 k h b c) =
       let a = n .late h in
-      let w : 6 * (22 + 14 * p .transition + at f 1) + 5 < length t = omega (arith, s .size, n .transitions-low, n .transition-low, n .registers-low) in
+      let w : 6 * (37 + 14 * p .place + at f 1 - 1) + 5 < length t = omega (arith, s .size, n .transitions-low, n .transition-low, n .registers-low) in
       rw k
-      (moves-within t (22 + 14 * p .transition + at f 1) f _ _ _ _ _ _ _ _ _ 8 (n .actions-low) (omega arith) (omega (arith, n .registers-low))
+      (moves-within t (37 + 14 * p .place + at f 1 - 1) f _ _ _ _ _ _ _ _ _ 6 (n .actions-low) (omega arith) (omega (arith, n .registers-low))
       (λ x y e g v. (
         y,
-        rows-assign t (22 + 14 * p .transition + at f 1) f _ _ _ _ x y _ (at f 1) (n .actions-low) (omega arith) w (b .0)
+        rows-assign t (37 + 14 * p .place + at f 1 - 1) f _ _ _ _ x y _ (at f 1) (n .actions-low) (omega arith) w (b .0)
             (record { kind = omega arith; register = refl; known = b; source = c }) v,
         λ u. absurd (omega arith),
       ))
@@ -361,8 +360,8 @@ module _ (p : Progress) (f t : List ℕ) (s : Sound p t) where
   sound-step l h =
       record {
         counted = counted-step p f _ n h;
-        size = length-put t (home p (at f 0) (at f 1)) f ∙ s .size;
-        low = low-put t (home p (at f 0) (at f 1)) f l (s .low);
+        size = length-put t (kindAt p (at f 0) (at f 1) .row) f ∙ s .size;
+        low = low-put t (kindAt p (at f 0) (at f 1) .row) f l (s .low);
         constants = constants-step h;
         arities = arities-step h;
         start = start-step h;
@@ -371,21 +370,21 @@ module _ (p : Progress) (f t : List ℕ) (s : Sound p t) where
       }
 
 -- the counts of line 1 stand in row 0; where a line 3 was read, there are actions, and all constants were read
-pub record Headed (r c l m n ids last : ℕ) (t : List ℕ) : Type 0 where
+pub record Headed (r c l m n ids stage : ℕ) (t : List ℕ) : Type 0 where
   pub head1 : cell t 0 1 ≡ r
   pub head2 : cell t 0 2 ≡ c
   pub head3 : cell t 0 3 ≡ l
   pub head4 : cell t 0 4 ≡ m
   pub head5 : cell t 0 5 ≡ n
-  pub passed : 3 ≤ last → (1 ≤ m) × (c ≤ ids)
+  pub passed : 3 ≤ stage → (1 ≤ m) × (c ≤ ids)
 
 abbrev pub HeadedBy : Progress → List ℕ → Type 0
-HeadedBy p t = Headed (p .registers) (p .constants) (p .locations) (p .actions) (p .transitions) (p .ids) (p .last) t
+HeadedBy p t = Headed (p .registers) (p .constants) (p .locations) (p .actions) (p .transitions) (p .ids) (p .stage) t
 
-headed-kept : (r c l m n ids ids′ last last′ : ℕ) (t : List ℕ) (row : ℕ) (f : List ℕ) → 1 ≤ row
-    → (3 ≤ last′ → (3 ≤ last → (1 ≤ m) × (c ≤ ids)) → (1 ≤ m) × (c ≤ ids′))
-    → Headed r c l m n ids last t → Headed r c l m n ids′ last′ (put t row f)
-headed-kept r c l m n ids ids′ last last′ t row f h k s =
+headed-kept : (r c l m n ids ids′ stage stage′ : ℕ) (t : List ℕ) (row : ℕ) (f : List ℕ) → 1 ≤ row
+    → (3 ≤ stage′ → (3 ≤ stage → (1 ≤ m) × (c ≤ ids)) → (1 ≤ m) × (c ≤ ids′))
+    → Headed r c l m n ids stage t → Headed r c l m n ids′ stage′ (put t row f)
+headed-kept r c l m n ids ids′ stage stage′ t row f h k s =
     record {
       head1 = kept (λ x. at x 1 ≡ r) t row f 0 (omega arith) (s .head1);
       head2 = kept (λ x. at x 2 ≡ c) t row f 0 (omega arith) (s .head2);
@@ -396,7 +395,7 @@ headed-kept r c l m n ids ids′ last last′ t row f h k s =
     }
 
 pub headed-step : (p : Progress) (f t : List ℕ) → length t ≡ 5544 → HeadedBy p t → Stands p f → HeadedBy (further p f t) (placed p f t)
-unfolding advance home
+unfolding advance kindAt
 headed-step p f t z n (line1 k l b c d e g) =
     let w : 5 < length t = omega arith in
     rw k
@@ -408,10 +407,10 @@ headed-step p f t z n (line1 k l b c d e g) =
       head5 = written t 0 f w (λ x. at x 5 ≡ at f 5) refl;
       passed = λ h. absurd (omega arith);
     })
-headed-step p f t z n (line2 k h i j) = rw k (headed-kept _ _ _ _ _ _ _ _ 2 t (1 + p .ids) f (omega arith) (λ x y. absurd (omega arith)) n)
-headed-step p f t z n (line3 k h i j) = rw k (headed-kept _ _ _ _ _ _ _ _ 3 t (3 + p .acts) f (omega arith) (λ x y. (omega arith, h)) n)
+headed-step p f t z n (line2 k g h i j) = rw k (headed-kept _ _ _ _ _ _ _ _ 2 t (1 + p .ids) f (omega arith) (λ x y. absurd (omega arith)) n)
+headed-step p f t z n (line3 k g h i j m) = rw k (headed-kept _ _ _ _ _ _ _ _ 3 t (3 + p .acts) f (omega arith) (λ x y. (omega arith, i)) n)
 headed-step p f t z n (line4 k h i j) = rw k (headed-kept _ _ _ _ _ _ _ _ 4 t 19 f (omega arith) (λ x y. y (omega arith)) n)
-headed-step p f t z n (line5 k h i j b c d) = rw k (headed-kept _ _ _ _ _ _ _ _ 5 t (20 + p .conds) f (omega arith) (λ x y. y (omega arith)) n)
-headed-step p f t z n (line6 k h i b c d) = rw k (headed-kept _ _ _ _ _ _ _ _ 6 t (28 + 14 * p .transition) f (omega arith) (λ x y. y (omega arith)) n)
-headed-step p f t z n (line7 k h i j b c d) = rw k (headed-kept _ _ _ _ _ _ _ _ 7 t (15 + 14 * p .transition + p .conds) f (omega arith) (λ x y. y (omega arith)) n)
-headed-step p f t z n (line8 k h b c) = rw k (headed-kept _ _ _ _ _ _ _ _ 8 t (22 + 14 * p .transition + at f 1) f (omega arith) (λ x y. y (omega arith)) n)
+headed-step p f t z n (line5 k h j b c d) = rw k (headed-kept _ _ _ _ _ _ _ _ 4 t (20 + p .conds) f (omega arith) (λ x y. y (omega arith)) n)
+headed-step p f t z n (line6 k h i b c d) = rw k (headed-kept _ _ _ _ _ _ _ _ 5 t (28 + 14 * p .transition) f (omega arith) (λ x y. y (omega arith)) n)
+headed-step p f t z n (line7 k h j b c d) = rw k (headed-kept _ _ _ _ _ _ _ _ 5 t (29 + 14 * p .place + p .conds) f (omega arith) (λ x y. y (omega arith)) n)
+headed-step p f t z n (line8 k h b c) = rw k (headed-kept _ _ _ _ _ _ _ _ 6 t (37 + 14 * p .place + at f 1 - 1) f (omega arith) (λ x y. y (omega arith)) n)

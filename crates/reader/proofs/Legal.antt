@@ -16,7 +16,7 @@ use Rattle.fields.proofs.Digits.{Low, low-zeros}
 use Rattle.fields.proofs.LineFiles.{file-keeps}
 use Rattle.forms.specs.TableForm.{cell}
 use Rattle.reader.specs.declared.Progress.{Progress}
-use Rattle.reader.specs.TableRules.{at, advance, further, placed, atStart, beforeTarget, complete}
+use Rattle.reader.specs.TableRules.{at, kindAt, advance, further, placed, atStart, beforeTarget, complete}
 use Rattle.reader.specs.Table.{Read, tableRules, blankForm, readForm, readTable, readTarget}
 use Rattle.reader.proofs.Accepted.{Stands, stands, line1, line2, line3, line4, line5, line6, line7, line8}
 use Rattle.reader.proofs.Shape.{TransitionRows, Legal, LegalTarget}
@@ -38,11 +38,11 @@ module _ (Q : Progress → List ℕ → Type 0) (step : (p : Progress) (f t : Li
               (λ m y fs l j w q. step (y .progress) (padded fs) (y .form) l (stands (y .progress) (length fs) (padded fs) j) q) x begun s h z in
           (x .progress, subst (Q (x .progress)) same (k .1), k .2)
 
-completed : (p : Progress) → complete p ≡ true → (4 ≤ p .last) × (p .transitions ≤ p .transition)
+completed : (p : Progress) → complete p ≡ true → (4 ≤ p .stage) × (p .transitions ≤ p .transition)
 unfolding complete
 completed p c =
-    let h = and-eq-true-iff (leb 4 (p .last)) (leb (p .transitions) (p .transition)) .0 c in
-    (leb-true 4 (p .last) (h .0), leb-true (p .transitions) (p .transition) (h .1))
+    let h = and-eq-true-iff (leb 4 (p .stage)) (leb (p .transitions) (p .transition)) .0 c in
+    (leb-true 4 (p .stage) (h .0), leb-true (p .transitions) (p .transition) (h .1))
 
 -- a form with no lines
 zeros : (n i : ℕ) → at (replicate n 0) i ≡ 0
@@ -53,7 +53,7 @@ zeros n i = omega (arith, blank-at n i)
     blank-at (suc n) zero = omega arith
     blank-at (suc n) (suc i) = blank-at n i
 
-blank-sound : (p : Progress) → Counted p → p .ids ≡ 0 → p .acts ≡ 0 → p .last ≤ 3 → Sound p blankForm
+blank-sound : (p : Progress) → Counted p → p .ids ≡ 0 → p .acts ≡ 0 → p .stage ≤ 3 → Sound p blankForm
 blank-sound p n a b h =
     let x = n .unread (omega arith) in
     let y = n .early (omega arith) in
@@ -119,22 +119,22 @@ record Aimed (r c l : ℕ) (p : Progress) (t : List ℕ) : Type 0 where
   same1 : p .registers ≡ r
   same2 : p .constants ≡ c
   same3 : p .locations ≡ l
-  beyond : 3 ≤ p .last
+  beyond : 3 ≤ p .stage
 
 aimed-step : (r c l : ℕ) (p : Progress) (f t : List ℕ) → Low f → Stands p f → Aimed r c l p t → Aimed r c l (further p f t) (placed p f t)
-unfolding advance
+unfolding advance kindAt
 aimed-step r c l p f t x h s =
     let g = same h in
     record { sound = sound-step p f t (s .sound) x h; same1 = g .0; same2 = g .1; same3 = g .2; beyond = g .3 }
   where
-    same : Stands p f → (further p f t .registers ≡ r) × (further p f t .constants ≡ c) × (further p f t .locations ≡ l) × (3 ≤ further p f t .last)
+    same : Stands p f → (further p f t .registers ≡ r) × (further p f t .constants ≡ c) × (further p f t .locations ≡ l) × (3 ≤ further p f t .stage)
     same (line1 k h b c d e g) = absurd (omega (arith, s .beyond))
-    same (line2 k h i j) = absurd (omega (arith, s .beyond))
-    same (line3 k h i j) = rw k (s .same1, s .same2, s .same3, omega arith)
+    same (line2 k g h i j) = absurd (omega (arith, s .beyond))
+    same (line3 k g h i j m) = rw k (s .same1, s .same2, s .same3, omega arith)
     same (line4 k h i j) = rw k (s .same1, s .same2, s .same3, omega arith)
-    same (line5 k h i j b c d) = rw k (s .same1, s .same2, s .same3, omega arith)
+    same (line5 k h j b c d) = rw k (s .same1, s .same2, s .same3, omega arith)
     same (line6 k h i b c d) = rw k (s .same1, s .same2, s .same3, omega arith)
-    same (line7 k h i j b c d) = rw k (s .same1, s .same2, s .same3, omega arith)
+    same (line7 k h j b c d) = rw k (s .same1, s .same2, s .same3, omega arith)
     same (line8 k h b c) = rw k (s .same1, s .same2, s .same3, omega arith)
 
 target-end : (r c l : ℕ) (p : Progress) (t : List ℕ) → Sound p t → p .registers ≡ r → p .constants ≡ c → p .locations ≡ l → complete p ≡ true → LegalTarget r c l t

@@ -10,9 +10,10 @@ use Rattle.refusals.specs.Judged.Judged.{accepted, refused}
 use Rattle.fields.specs.LineFiles.{readFile}
 use Rattle.fields.proofs.LineFiles.{Numbered, file-numbers}
 use Rattle.reader.specs.declared.Progress.{Progress}
+use Rattle.reader.specs.declared.Kind.{Kind}
 use Rattle.reader.specs.declared.Reply.{Reply}
 use Rattle.reader.specs.declared.Reply.the-variants.{Accepted}
-use Rattle.reader.specs.TableRules.{at, expected, crowded, inRange, inOrder, judgeValues, judgeLine}
+use Rattle.reader.specs.TableRules.{at, kindAt, expected, crowded, inRange, inOrder, judgeValues, judgeLine}
 use Rattle.reader.specs.Table.{Read, tableRules, blankForm, readForm}
 use Rattle.reader.specs.TableReply.{replyOf, formOf}
 
@@ -34,9 +35,10 @@ chosen false x y h k = k
 judge-low : (p : Progress) (n : ℕ) (f : List ℕ) → judgeLine p n f ≤ 10
 unfolding judgeLine judgeValues
 judge-low p n f =
-    chosen (expected p (at f 0) n) (judgeValues p f) 2
-    (chosen (crowded p (at f 0)) 6 _ (omega arith)
-    (chosen (inRange p f) _ _ (chosen (inOrder p (at f 0) (at f 1)) 0 4 (omega arith) (omega arith)) (chosen (eqb (at f 0) 1) 3 5 (omega arith) (omega arith))))
+    let k : Kind = kindAt p (at f 0) (at f 1) in
+    chosen (expected p k n) (judgeValues p k f) 2
+    (chosen (crowded p k) 6 _ (omega arith)
+    (chosen (inRange p f) _ _ (chosen (inOrder p k (at f 1)) 0 4 (omega arith) (omega arith)) (chosen (eqb (at f 0) 1) 3 5 (omega arith) (omega arith))))
     (omega arith)
 
 pub form-numbers : (file limit : ℕ) (p : Progress) (s : List ℕ) → Numbered (λ x. x ≤ 10) (readForm file limit p s)

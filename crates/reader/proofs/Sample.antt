@@ -9,13 +9,13 @@ use Rattle.fields.specs.Format.{glyphOf}
 use Rattle.refusals.specs.Judged.Judged.{accepted}
 use Rattle.fields.specs.LineFiles.{readFile}
 use Rattle.forms.specs.TableForm.{automatonOf, targetOf}
-use Rattle.reader.specs.TableRules.{hasTerm, expected, crowded, inRange, inOrder, judgeValues, judgeLine, home, put, advance, complete}
+use Rattle.reader.specs.TableRules.{hasTerm, kindAt, inRange, judgeValues, judgeLine, put, advance, complete}
 use Rattle.reader.specs.Sample.{sampleBytes, looseBytes, deliveredBytes, deliveredByOneBytes, sampleForm, looseForm, deliveredForm, deliveredByOneForm, readExamples}
 use Rattle.reader.specs.Table.{readTable, readTarget}
 
 -- the sixteen lines
 pub sample-read : readTable sampleBytes ≡ accepted sampleForm
-unfolding flatMap glyphOf hasTerm expected crowded inRange inOrder judgeValues judgeLine home put advance complete readFile
+unfolding flatMap glyphOf hasTerm kindAt inRange judgeValues judgeLine put advance complete readFile
 sample-read = refl
 
 pub sample-is : automatonOf sampleForm ≡ sample
@@ -24,7 +24,7 @@ sample-is = refl
 
 -- without the line `8 1 1 1`
 pub loose-read : readTable looseBytes ≡ accepted looseForm
-unfolding flatMap glyphOf hasTerm expected crowded inRange inOrder judgeValues judgeLine home put advance complete readFile
+unfolding flatMap glyphOf hasTerm kindAt inRange judgeValues judgeLine put advance complete readFile
 loose-read = refl
 
 pub loose-is : automatonOf looseForm ≡ loose
@@ -33,7 +33,7 @@ loose-is = refl
 
 -- the targets
 pub delivered-read : readTarget sampleForm deliveredBytes ≡ accepted deliveredForm
-unfolding flatMap glyphOf hasTerm expected crowded inRange inOrder judgeValues judgeLine home put advance complete readFile
+unfolding flatMap glyphOf hasTerm kindAt inRange judgeValues judgeLine put advance complete readFile
 delivered-read = refl
 
 pub delivered-is : targetOf deliveredForm ≡ delivered
@@ -41,7 +41,7 @@ unfolding targetOf
 delivered-is = refl
 
 pub delivered-by-one-read : readTarget sampleForm deliveredByOneBytes ≡ accepted deliveredByOneForm
-unfolding flatMap glyphOf hasTerm expected crowded inRange inOrder judgeValues judgeLine home put advance complete readFile
+unfolding flatMap glyphOf hasTerm kindAt inRange judgeValues judgeLine put advance complete readFile
 delivered-by-one-read = refl
 
 pub delivered-by-one-is : targetOf deliveredByOneForm ≡ deliveredByOne

@@ -15,4 +15,5 @@ pub record Small (p : Progress) (n : ℕ) : Type 0 where
   pub ids-small : p .ids ≤ n
   pub acts-small : p .acts ≤ n
   pub transition-small : p .transition ≤ n
+  pub place-small : p .place ≤ n
   pub conds-small : p .conds ≤ n

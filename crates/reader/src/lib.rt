@@ -5,7 +5,7 @@ ghost use Prim.Native.Nat.{ℕ, _+_, _^_, _≤_};
 ghost use lib.ListN.{length, getD, set};
 ghost use Rattle.automata.specs.WellFormed.{inside};
 ghost use Rattle.fields.specs.Machine.{between, judgeRead, ended, fed, run};
-ghost use Rattle.reader.specs.TableRules.{hasTerm, expected, crowded, inRange, inOrder, judgeValues, judgeLine, advance, home, put, further, placed, complete};
+ghost use Rattle.reader.specs.TableRules.{hasTerm, kindAt, expected, inRange, judgeValues, judgeLine, advance, put, further, placed, complete};
 ghost use Rattle.reader.specs.Table.{tableRules, readForm, readTable, readTarget};
 ghost use Rattle.reader.specs.TableReply.{replyOf, formOf};
 ghost use Rattle.reader.specs.TableRead.{reading, Small};
@@ -21,17 +21,19 @@ pub struct Progress {
     pub locations: u32,
     pub actions: u32,
     pub transitions: u32,
-    // the kind of the last line, 0 before the first
-    pub last: u32,
+    // the stage of the file
+    pub stage: u32,
     // lines 2, 3 and 6 so far
     pub ids: u32,
     pub acts: u32,
     pub transition: u32,
+    // the last transition, counted from 0
+    pub place: u32,
     // conditions so far, of the start or of the last transition
     pub conds: u32,
     // parameters of the last transition's action
     pub params: u32,
-    // the last constant, or the last register that the last transition assigns
+    // the first number of the last line of a kind that rises
     pub newest: u32,
 }
 
@@ -52,70 +54,115 @@ fn has_term(p: Progress, k: u32, n: u32) -> bool
     register | parameter | constant
 }
 
-// A line of kind k with n fields may stand here.
-fn may_stand(p: Progress, k: u32, n: usize) -> bool
-    ensures { λ r. ⌜ r ≡ expected p k n ⌝ }
-{
-    (k == 1) & (n == 6) & (p.last == 0)
-        | (k == 2) & (n == 2) & (p.last <= 2) & (p.ids < p.constants)
-        | (k == 3) & (n == 2) & (p.constants <= p.ids) & (p.acts < p.actions)
-        | (k == 4) & (n == 2) & (p.last == 3) & (p.actions <= p.acts)
-        | (k == 5) & (n == 6) & (4 <= p.last) & (p.last <= 5)
-        | (k == 6) & (n == 4) & (4 <= p.last) & (p.transition < p.transitions)
-        | (k == 7) & (n == 6) & (6 <= p.last) & (p.last <= 7)
-        | (k == 8) & (n == 4) & (6 <= p.last)
+// What the table of kinds says of a line here, but for the ranges of its fields.
+pub struct Kind {
+    // how many fields it has
+    pub fields: usize,
+    // the stages at which it may stand, and the one that follows it
+    pub from: u32,
+    pub to: u32,
+    pub next: u32,
+    // its turn has come by the counts
+    pub due: bool,
+    // it is a condition
+    pub condition: bool,
+    // its first number rises
+    pub rising: bool,
+    // its row in the form
+    pub row: usize,
 }
 
-// A ninth condition.
-fn is_ninth(p: Progress, k: u32) -> bool
-    ensures { λ r. ⌜ r ≡ crowded p k ⌝ }
+fn kind_with(
+    fields: usize,
+    from: u32,
+    to: u32,
+    next: u32,
+    due: bool,
+    condition: bool,
+    rising: bool,
+    row: usize,
+) -> Kind
+    ensures { λ r. ⌜ r ≡ record { fields = fields; from = from; to = to; next = next; due = due; condition = condition; rising = rising; row = row } ⌝ }
 {
-    ((k == 5) | (k == 7)) & (8 <= p.conds)
+    Kind {
+        fields: fields,
+        from: from,
+        to: to,
+        next: next,
+        due: due,
+        condition: condition,
+        rising: rising,
+        row: row,
+    }
+}
+
+// The kind k of a line with the first number n.
+fn kind_at(p: Progress, k: u32, n: u32) -> Kind
+    requires { ⌜ Small p 50000 ⌝ }
+    ensures { λ r. ⌜ r ≡ kindAt p k n ⌝ }
+{
+    let constant = p.ids < p.constants;
+    let action = (p.constants <= p.ids) & (p.acts < p.actions);
+    let start = p.actions <= p.acts;
+    let transition = p.transition < p.transitions;
+    let ids = p.ids as usize;
+    let acts = p.acts as usize;
+    let conds = p.conds as usize;
+    let rows = 14 * (p.transition as usize);
+    let place = 14 * (p.place as usize);
+    match k {
+        1 => kind_with(6, 0, 0, 1, true, false, false, 0),
+        2 => kind_with(2, 1, 2, 2, constant, false, true, 1 + ids),
+        3 => kind_with(2, 1, 3, 3, action, false, false, 3 + acts),
+        4 => kind_with(2, 3, 3, 4, start, false, false, 19),
+        5 => kind_with(6, 4, 4, 4, true, true, false, 20 + conds),
+        6 => kind_with(4, 4, 6, 5, transition, false, false, 28 + rows),
+        7 => kind_with(6, 5, 5, 5, true, true, false, 29 + place + conds),
+        8 => kind_with(4, 5, 6, 6, true, false, true, 37 + place + n as usize - 1),
+        _ => kind_with(1, 0, 0, 0, false, false, false, 0),
+    }
+}
+
+// A line of n fields may stand here.
+fn may_stand(p: Progress, k: Kind, n: usize) -> bool
+    ensures { λ r. ⌜ r ≡ expected p k n ⌝ }
+{
+    (n == k.fields) & (k.from <= p.stage) & (p.stage <= k.to) & k.due
 }
 
 // Every number is in its range.
 fn has_range(p: Progress, f: [u32; 6]) -> bool
     ensures { λ r. ⌜ r ≡ inRange p f ⌝ }
 {
-    let k = f[0];
-    let counts = (f[1] <= 5) & (f[2] <= 2) & in_count(f[3], 16) & in_count(f[4], 16) & (f[5] <= 64);
-    let condition = has_term(p, f[1], f[2]) & in_count(f[3], 2) & has_term(p, f[4], f[5]);
-    let transition = in_count(f[1], p.locations)
-        & in_count(f[2], p.actions)
-        & in_count(f[3], p.locations);
-    let assignment = in_count(f[1], p.registers) & has_term(p, f[2], f[3]);
-    (k == 1) & counts
-        | (k == 2)
-        | (k == 3) & (f[1] <= 3)
-        | (k == 4) & in_count(f[1], p.locations)
-        | ((k == 5) | (k == 7)) & condition
-        | (k == 6) & transition
-        | (k == 8) & assignment
+    match f[0] {
+        1 => (f[1] <= 5) & (f[2] <= 2) & in_count(f[3], 16) & in_count(f[4], 16) & (f[5] <= 64),
+        2 => true,
+        3 => f[1] <= 3,
+        4 => in_count(f[1], p.locations),
+        5 => has_term(p, f[1], f[2]) & in_count(f[3], 2) & has_term(p, f[4], f[5]),
+        6 => {
+            in_count(f[1], p.locations) & in_count(f[2], p.actions) & in_count(f[3], p.locations)
+        }
+        7 => has_term(p, f[1], f[2]) & in_count(f[3], 2) & has_term(p, f[4], f[5]),
+        8 => in_count(f[1], p.registers) & has_term(p, f[2], f[3]),
+        _ => true,
+    }
 }
 
-// Constants, and the registers that a transition assigns, rise.
-fn rises(p: Progress, k: u32, n: u32) -> bool
-    ensures { λ r. ⌜ r ≡ inOrder p k n ⌝ }
+// The refusal of a line of kind k that may stand here, or 0.
+fn judge_values(p: Progress, k: Kind, f: [u32; 6]) -> u32
+    ensures { λ r. ⌜ r ≡ judgeValues p k f ⌝ }
 {
-    !(((k == 2) & (0 < p.ids) | (k == 8)) & (n <= p.newest))
-}
-
-// The refusal of a line that may stand here, or 0.
-fn judge_values(p: Progress, f: [u32; 6]) -> u32
-    ensures { λ r. ⌜ r ≡ judgeValues p f ⌝ }
-{
-    let k = f[0];
-    let n = f[1];
-    if is_ninth(p, k) {
+    if k.condition & (8 <= p.conds) {
         return 6;
     }
     if has_range(p, f) {
-        if rises(p, k, n) {
+        if !(k.rising & (p.stage == k.next) & (f[1] <= p.newest)) {
             return 0;
         }
         return 4;
     }
-    if k == 1 {
+    if f[0] == 1 {
         return 3;
     }
     5
@@ -123,17 +170,19 @@ fn judge_values(p: Progress, f: [u32; 6]) -> u32
 
 // The refusal of a line of n fields, or 0.
 fn judge_fields(p: Progress, n: usize, f: [u32; 6]) -> u32
+    requires { ⌜ Small p 50000 ⌝ }
     ensures { λ r. ⌜ r ≡ judgeLine p n f ⌝ }
 {
-    let k = f[0];
+    let k = kind_at(p, f[0], f[1]);
     if may_stand(p, k, n) {
-        return judge_values(p, f);
+        return judge_values(p, k, f);
     }
     2
 }
 
 // The refusal of a line, or 0.
 fn judge_line(p: Progress, l: Line) -> u32
+    requires { ⌜ Small p 50000 ⌝ }
     ensures { λ r. ⌜ r ≡ judgeRead (judgeLine p) l ⌝ }
 {
     let f = l.fields;
@@ -182,42 +231,27 @@ fn pick(c: bool, a: u32, b: u32) -> u32
     if c { a } else { b }
 }
 
-// The progress after a line that is accepted. The action of a line 6 has a parameters.
-fn advanced(p: Progress, f: [u32; 6], a: u32) -> Progress
+// The progress after a line of kind k that is accepted. The action of a line 6 has a parameters.
+fn advanced(p: Progress, k: Kind, f: [u32; 6], a: u32) -> Progress
     requires { ⌜ Small p 50000 ⌝ }
-    ensures { λ r. ⌜ r ≡ advance p f a ⌝ }
+    ensures { λ r. ⌜ r ≡ advance p k f a ⌝ }
 {
-    let k = f[0];
+    let head = f[0] == 1;
+    let new = f[0] == 6;
     Progress {
-        registers: pick(k == 1, f[1], p.registers),
-        constants: pick(k == 1, f[2], p.constants),
-        locations: pick(k == 1, f[3], p.locations),
-        actions: pick(k == 1, f[4], p.actions),
-        transitions: pick(k == 1, f[5], p.transitions),
-        last: k,
-        ids: pick(k == 2, p.ids + 1, p.ids),
-        acts: pick(k == 3, p.acts + 1, p.acts),
-        transition: pick(k == 6, p.transition + 1, p.transition),
-        conds: pick(k == 6, 0, pick((k == 5) | (k == 7), p.conds + 1, p.conds)),
-        params: pick(k == 6, a, p.params),
-        newest: pick(k == 6, 0, pick((k == 2) | (k == 8), f[1], p.newest)),
-    }
-}
-
-// The row of a line of kind k whose first number is n.
-fn home_row(p: Progress, k: u32, n: u32) -> usize
-    requires { ⌜ Small p 50000 ⌝ }
-    ensures { λ r. ⌜ r ≡ home p k n ⌝ }
-{
-    match k {
-        1 => 0,
-        2 => 1 + p.ids as usize,
-        3 => 3 + p.acts as usize,
-        4 => 19,
-        5 => 20 + p.conds as usize,
-        6 => 28 + 14 * (p.transition as usize),
-        7 => 15 + 14 * (p.transition as usize) + p.conds as usize,
-        _ => 22 + 14 * (p.transition as usize) + n as usize,
+        registers: pick(head, f[1], p.registers),
+        constants: pick(head, f[2], p.constants),
+        locations: pick(head, f[3], p.locations),
+        actions: pick(head, f[4], p.actions),
+        transitions: pick(head, f[5], p.transitions),
+        stage: k.next,
+        ids: pick(f[0] == 2, p.ids + 1, p.ids),
+        acts: pick(f[0] == 3, p.acts + 1, p.acts),
+        transition: pick(new, p.transition + 1, p.transition),
+        place: pick(new, p.transition, p.place),
+        conds: pick(new, 0, pick(k.condition, p.conds + 1, p.conds)),
+        params: pick(new, a, p.params),
+        newest: pick(k.rising, f[1], p.newest),
     }
 }
 
@@ -228,9 +262,9 @@ fn accept(p: Progress, f: [u32; 6], t: &mut [u32]) -> Progress
 {
     let action = f[2] as usize;
     let params = load(t, 6 * (2 + action) + 1);
-    let row = home_row(p, f[0], f[1]);
-    put_row(t, row, f);
-    advanced(p, f, params)
+    let k = kind_at(p, f[0], f[1]);
+    put_row(t, k.row, f);
+    advanced(p, k, f, params)
 }
 
 // The state of the reader of a table between two bytes.
@@ -307,7 +341,7 @@ pub enum Reply {
 fn is_complete(p: Progress) -> bool
     ensures { λ r. ⌜ r ≡ complete p ⌝ }
 {
-    (4 <= p.last) & (p.transitions <= p.transition)
+    (4 <= p.stage) & (p.transitions <= p.transition)
 }
 
 // Reads the lines of a file to the form t; a refusal leaves t as it is.
@@ -347,10 +381,11 @@ pub fn read_table(s: &[u8], t: &mut [u32; 5544]) -> Reply
         locations: 0,
         actions: 0,
         transitions: 0,
-        last: 0,
+        stage: 0,
         ids: 0,
         acts: 0,
         transition: 0,
+        place: 0,
         conds: 0,
         params: 0,
         newest: 0,
@@ -368,10 +403,11 @@ pub fn read_target(table: &[u32], s: &[u8], t: &mut [u32; 5544]) -> Reply
         locations: load(table, 3),
         actions: 0,
         transitions: 0,
-        last: 3,
+        stage: 3,
         ids: 0,
         acts: 0,
         transition: 0,
+        place: 0,
         conds: 0,
         params: 0,
         newest: 0,

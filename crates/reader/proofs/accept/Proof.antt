@@ -1,14 +1,13 @@
 -- `reader::accept` meets its contract. Assumes nothing.
-use Prim.Native.Nat.{ℕ}
 use borrow.Author.Needs.{needs}
 use lib.ListN.{getD}
-use mathlib.Core.Path.{_∙_, ap}
+use mathlib.Core.Path.{ap}
 use mir.Syntax.{w32}
 use mir.Val.{Fits}
 use native.Mathlib.Omega.{arith}
-use Rattle.reader.proofs.Bounds.{home-low}
+use Rattle.reader.specs.declared.Kind.{Kind}
+use Rattle.reader.proofs.Bounds.{row-low}
 use Rattle.reader.proofs.accept.Statement.{statement}
-use Rattle.reader.specs.TableRules.{put, advance}
 use Rattle.reader.proofs.accept.Tie as tie
 
 array-read-action : tie.Need-array-read-action
@@ -29,20 +28,20 @@ add-load-2 c = let h : Fits w32 (getD (c .before .before .args .t2) 2 0) = searc
 load-requires : tie.Need-load-requires
 load-requires c κs = search needs
 
-array-read-home-row : tie.Need-array-read-home-row
-array-read-home-row c = search needs
+array-read-kind-at : tie.Need-array-read-kind-at
+array-read-kind-at c = search needs
 
-array-read-home-row-2 : tie.Need-array-read-home-row-2
-array-read-home-row-2 c = search needs
+array-read-kind-at-2 : tie.Need-array-read-kind-at-2
+array-read-kind-at-2 c = search needs
 
-home-row-requires : tie.Need-home-row-requires
-home-row-requires c κs = search needs
+kind-at-requires : tie.Need-kind-at-requires
+kind-at-requires c κs = search needs
 
 put-row-requires : tie.Need-put-row-requires
-put-row-requires c κs =
+put-row-requires c κs = 
     let a = c .before .before .before .before .before .args in
     let h : Fits w32 (getD (a .t2) 1 0) = search needs in
-    omega (arith, c .before .home-row .ensures, home-low (a .p) (getD (a .t2) 0 0) (getD (a .t2) 1 0) (c .before .before .before .before .before .pre) (h .fits))
+    omega (arith, ap (λ (k : Kind). k .row) (c .before .kind-at .ensures), row-low (a .p) (getD (a .t2) 0 0) (getD (a .t2) 1 0) (c .before .before .before .before .before .pre) (h .fits))
 
 advanced-requires : tie.Need-advanced-requires
 advanced-requires c κs = search needs
@@ -51,11 +50,7 @@ same-length : tie.Need-same-length
 same-length c = search needs
 
 returns : tie.Need-returns
-returns c =
-    let a = c .before .before .before .before .before .before .before .before .before .args in (
-      c .advanced .ensures ∙ ap (advance (a .p) (a .t2)) (c .before .before .before .before .before .before .load .ensures),
-      c .before .before .before .put-row .ensures ∙ ap (λ (n : ℕ). put (a .t .now) n (a .t2)) (c .before .before .before .before .before .home-row .ensures),
-    )
+returns c = (simp (← c .before .before .before .before .before .kind-at .ensures, ← c .before .before .before .before .before .before .load .ensures) (c .advanced .ensures), simp (← c .before .before .before .before .before .kind-at .ensures) (c .before .before .before .put-row .ensures))
 
 pub accept-spec : {M : Type 1} → statement M
 accept-spec =
@@ -67,9 +62,9 @@ accept-spec =
     mul-load
     add-load-2
     load-requires
-    array-read-home-row
-    array-read-home-row-2
-    home-row-requires
+    array-read-kind-at
+    array-read-kind-at-2
+    kind-at-requires
     put-row-requires
     advanced-requires
     same-length

@@ -1,12 +1,15 @@
 -- `reader::advanced` meets its contract. Assumes nothing.
 use borrow.Author.Needs.{needs}
 use native.Mathlib.Omega.{arith}
-use Rattle.reader.proofs.advanced.Statement.{statement}
 use Rattle.reader.specs.TableRules.{advance}
+use Rattle.reader.proofs.advanced.Statement.{statement}
 use Rattle.reader.proofs.advanced.Tie as tie
 
-array-read-k : tie.Need-array-read-k
-array-read-k c = search needs
+array-read-head : tie.Need-array-read-head
+array-read-head c = search needs
+
+array-read-new : tie.Need-array-read-new
+array-read-new c = search needs
 
 array-read-pick : tie.Need-array-read-pick
 array-read-pick c = search needs
@@ -38,11 +41,17 @@ array-read-pick-5 c = search needs
 pick-requires-5 : tie.Need-pick-requires-5
 pick-requires-5 c κs = search needs
 
+array-read-pick-6 : tie.Need-array-read-pick-6
+array-read-pick-6 c = search needs
+
 add-pick : tie.Need-add-pick
 add-pick c = search needs
 
 pick-requires-6 : tie.Need-pick-requires-6
 pick-requires-6 c κs = search needs
+
+array-read-pick-7 : tie.Need-array-read-pick-7
+array-read-pick-7 c = search needs
 
 add-pick-2 : tie.Need-add-pick-2
 add-pick-2 c = search needs
@@ -56,11 +65,11 @@ add-pick-3 c = search needs
 pick-requires-8 : tie.Need-pick-requires-8
 pick-requires-8 c κs = search needs
 
-add-pick-4 : tie.Need-add-pick-4
-add-pick-4 c = omega (arith, c .before .before .before .before .before .before .before .before .before .before .before .before .pre .conds-small)
-
 pick-requires-9 : tie.Need-pick-requires-9
 pick-requires-9 c κs = search needs
+
+add-pick-4 : tie.Need-add-pick-4
+add-pick-4 c = omega (arith, c .before .before .before .before .before .before .before .before .before .before .before .before .before .pre .conds-small)
 
 pick-requires-10 : tie.Need-pick-requires-10
 pick-requires-10 c κs = search needs
@@ -68,24 +77,25 @@ pick-requires-10 c κs = search needs
 pick-requires-11 : tie.Need-pick-requires-11
 pick-requires-11 c κs = search needs
 
-array-read-pick-6 : tie.Need-array-read-pick-6
-array-read-pick-6 c = search needs
-
 pick-requires-12 : tie.Need-pick-requires-12
 pick-requires-12 c κs = search needs
+
+array-read-pick-8 : tie.Need-array-read-pick-8
+array-read-pick-8 c = search needs
 
 pick-requires-13 : tie.Need-pick-requires-13
 pick-requires-13 c κs = search needs
 
 returns : tie.Need-returns
 unfolding advance
-returns c = simp (c .pick13 .ensures, c .before .pick12 .ensures, c .before .before .pick11 .ensures, c .before .before .before .pick10 .ensures, c .before .before .before .before .pick9 .ensures, c .before .before .before .before .before .before .pick8 .ensures, c .before .before .before .before .before .before .before .before .pick7 .ensures, c .before .before .before .before .before .before .before .before .before .before .pick6 .ensures, c .before .before .before .before .before .before .before .before .before .before .before .before .pick5 .ensures, c .before .before .before .before .before .before .before .before .before .before .before .before .before .pick4 .ensures, c .before .before .before .before .before .before .before .before .before .before .before .before .before .before .pick3 .ensures, c .before .before .before .before .before .before .before .before .before .before .before .before .before .before .before .pick2 .ensures, c .before .before .before .before .before .before .before .before .before .before .before .before .before .before .before .before .pick .ensures)
+returns c = simp (c .pick13 .ensures, c .before .pick12 .ensures, c .before .before .pick11 .ensures, c .before .before .before .pick10 .ensures, c .before .before .before .before .before .pick9 .ensures, c .before .before .before .before .before .before .pick8 .ensures, c .before .before .before .before .before .before .before .before .pick7 .ensures, c .before .before .before .before .before .before .before .before .before .before .pick6 .ensures, c .before .before .before .before .before .before .before .before .before .before .before .before .pick5 .ensures, c .before .before .before .before .before .before .before .before .before .before .before .before .before .pick4 .ensures, c .before .before .before .before .before .before .before .before .before .before .before .before .before .before .pick3 .ensures, c .before .before .before .before .before .before .before .before .before .before .before .before .before .before .before .pick2 .ensures, c .before .before .before .before .before .before .before .before .before .before .before .before .before .before .before .before .pick .ensures)
 
 pub advanced-spec : {M : Type 1} → statement M
 advanced-spec =
     tie.close
     (tie.spec
-    array-read-k
+    array-read-head
+    array-read-new
     array-read-pick
     pick-requires
     array-read-pick-2
@@ -96,17 +106,19 @@ advanced-spec =
     pick-requires-4
     array-read-pick-5
     pick-requires-5
+    array-read-pick-6
     add-pick
     pick-requires-6
+    array-read-pick-7
     add-pick-2
     pick-requires-7
     add-pick-3
     pick-requires-8
-    add-pick-4
     pick-requires-9
+    add-pick-4
     pick-requires-10
     pick-requires-11
-    array-read-pick-6
     pick-requires-12
+    array-read-pick-8
     pick-requires-13
     returns)

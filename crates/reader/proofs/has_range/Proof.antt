@@ -1,17 +1,19 @@
 -- `reader::has_range` meets its contract. Assumes nothing.
 use borrow.Author.Needs.{needs}
-use Rattle.reader.proofs.has_range.Statement.{statement}
+use lib.ListN.{getD}
 use Rattle.reader.specs.TableRules.{inRange}
+use Rattle.reader.proofs.Bounds.{other}
+use Rattle.reader.proofs.has_range.Statement.{statement}
 use Rattle.reader.proofs.has_range.Tie as tie
 
-array-read-k : tie.Need-array-read-k
-array-read-k c = search needs
+array-read-match : tie.Need-array-read-match
+array-read-match c = search needs
 
-array-read-counts : tie.Need-array-read-counts
-array-read-counts c = search needs
+array-read-result : tie.Need-array-read-result
+array-read-result c = search needs
 
-array-read-counts-2 : tie.Need-array-read-counts-2
-array-read-counts-2 c = search needs
+array-read-result-2 : tie.Need-array-read-result-2
+array-read-result-2 c = search needs
 
 array-read-in-count : tie.Need-array-read-in-count
 array-read-in-count c = search needs
@@ -25,8 +27,17 @@ array-read-in-count-2 c = search needs
 in-count-requires-2 : tie.Need-in-count-requires-2
 in-count-requires-2 c κs = search needs
 
-array-read-counts-3 : tie.Need-array-read-counts-3
-array-read-counts-3 c = search needs
+array-read-result-3 : tie.Need-array-read-result-3
+array-read-result-3 c = search needs
+
+array-read-result-4 : tie.Need-array-read-result-4
+array-read-result-4 c = search needs
+
+array-read-in-count-3 : tie.Need-array-read-in-count-3
+array-read-in-count-3 c = search needs
+
+in-count-requires-3 : tie.Need-in-count-requires-3
+in-count-requires-3 c κs = search needs
 
 array-read-has-term : tie.Need-array-read-has-term
 array-read-has-term c = search needs
@@ -37,11 +48,11 @@ array-read-has-term-2 c = search needs
 has-term-requires : tie.Need-has-term-requires
 has-term-requires c κs = search needs
 
-array-read-in-count-3 : tie.Need-array-read-in-count-3
-array-read-in-count-3 c = search needs
+array-read-in-count-4 : tie.Need-array-read-in-count-4
+array-read-in-count-4 c = search needs
 
-in-count-requires-3 : tie.Need-in-count-requires-3
-in-count-requires-3 c κs = search needs
+in-count-requires-4 : tie.Need-in-count-requires-4
+in-count-requires-4 c κs = search needs
 
 array-read-has-term-3 : tie.Need-array-read-has-term-3
 array-read-has-term-3 c = search needs
@@ -51,12 +62,6 @@ array-read-has-term-4 c = search needs
 
 has-term-requires-2 : tie.Need-has-term-requires-2
 has-term-requires-2 c κs = search needs
-
-array-read-in-count-4 : tie.Need-array-read-in-count-4
-array-read-in-count-4 c = search needs
-
-in-count-requires-4 : tie.Need-in-count-requires-4
-in-count-requires-4 c κs = search needs
 
 array-read-in-count-5 : tie.Need-array-read-in-count-5
 array-read-in-count-5 c = search needs
@@ -85,41 +90,95 @@ array-read-has-term-6 c = search needs
 has-term-requires-3 : tie.Need-has-term-requires-3
 has-term-requires-3 c κs = search needs
 
-array-read-result : tie.Need-array-read-result
-array-read-result c = search needs
-
 array-read-in-count-8 : tie.Need-array-read-in-count-8
 array-read-in-count-8 c = search needs
 
 in-count-requires-8 : tie.Need-in-count-requires-8
 in-count-requires-8 c κs = search needs
 
+array-read-has-term-7 : tie.Need-array-read-has-term-7
+array-read-has-term-7 c = search needs
+
+array-read-has-term-8 : tie.Need-array-read-has-term-8
+array-read-has-term-8 c = search needs
+
+has-term-requires-4 : tie.Need-has-term-requires-4
+has-term-requires-4 c κs = search needs
+
+array-read-in-count-9 : tie.Need-array-read-in-count-9
+array-read-in-count-9 c = search needs
+
+in-count-requires-9 : tie.Need-in-count-requires-9
+in-count-requires-9 c κs = search needs
+
+array-read-has-term-9 : tie.Need-array-read-has-term-9
+array-read-has-term-9 c = search needs
+
+array-read-has-term-10 : tie.Need-array-read-has-term-10
+array-read-has-term-10 c = search needs
+
+has-term-requires-5 : tie.Need-has-term-requires-5
+has-term-requires-5 c κs = search needs
+
 returns : tie.Need-returns
 unfolding inRange
-returns c = simp (c .in-count8 .ensures, c .before .has-term3 .ensures, c .before .before .in-count7 .ensures, c .before .before .before .in-count6 .ensures, c .before .before .before .before .in-count5 .ensures, c .before .before .before .before .before .in-count4 .ensures, c .before .before .before .before .before .before .has-term2 .ensures, c .before .before .before .before .before .before .before .in-count3 .ensures, c .before .before .before .before .before .before .before .before .has-term .ensures, c .before .before .before .before .before .before .before .before .before .in-count2 .ensures, c .before .before .before .before .before .before .before .before .before .before .in-count .ensures)
+returns c = rw (c .before .before .match .keys1) (simp (c .in-count2 .ensures, c .before .in-count .ensures))
+
+returns-2 : tie.Need-returns-2
+unfolding inRange
+returns-2 c = rw (c .match .keys2)
+
+returns-3 : tie.Need-returns-3
+unfolding inRange
+returns-3 c = rw (c .match .keys3)
+
+returns-4 : tie.Need-returns-4
+unfolding inRange
+returns-4 c = rw (c .before .match .keys4) (simp (c .in-count3 .ensures))
+
+returns-5 : tie.Need-returns-5
+unfolding inRange
+returns-5 c = rw (c .before .before .before .match .keys5) (simp (c .has-term2 .ensures, c .before .in-count4 .ensures, c .before .before .has-term .ensures))
+
+returns-6 : tie.Need-returns-6
+unfolding inRange
+returns-6 c = rw (c .before .before .before .match .keys6) (simp (c .in-count7 .ensures, c .before .in-count6 .ensures, c .before .before .in-count5 .ensures))
+
+returns-7 : tie.Need-returns-7
+unfolding inRange
+returns-7 c = rw (c .before .before .before .match .keys7) (simp (c .has-term4 .ensures, c .before .in-count8 .ensures, c .before .before .has-term3 .ensures))
+
+returns-8 : tie.Need-returns-8
+unfolding inRange
+returns-8 c = rw (c .before .before .match .keys8) (simp (c .has-term5 .ensures, c .before .in-count9 .ensures))
+
+returns-9 : tie.Need-returns-9
+unfolding inRange
+returns-9 c = let r = c .match .rest in rw (other (getD (c .before .args .t2) 0 0) (r .0 .0 .0 .0 .0 .0 .0 .1) (r .0 .0 .0 .0 .0 .0 .1) (r .0 .0 .0 .0 .0 .1) (r .0 .0 .0 .0 .1) (r .0 .0 .0 .1) (r .0 .0 .1) (r .0 .1) (r .1))
 
 pub has-range-spec : {M : Type 1} → statement M
 has-range-spec =
     tie.close
     (tie.spec
-    array-read-k
-    array-read-counts
-    array-read-counts-2
+    array-read-match
+    array-read-result
+    array-read-result-2
     array-read-in-count
     in-count-requires
     array-read-in-count-2
     in-count-requires-2
-    array-read-counts-3
+    array-read-result-3
+    array-read-result-4
+    array-read-in-count-3
+    in-count-requires-3
     array-read-has-term
     array-read-has-term-2
     has-term-requires
-    array-read-in-count-3
-    in-count-requires-3
+    array-read-in-count-4
+    in-count-requires-4
     array-read-has-term-3
     array-read-has-term-4
     has-term-requires-2
-    array-read-in-count-4
-    in-count-requires-4
     array-read-in-count-5
     in-count-requires-5
     array-read-in-count-6
@@ -129,7 +188,22 @@ has-range-spec =
     array-read-has-term-5
     array-read-has-term-6
     has-term-requires-3
-    array-read-result
     array-read-in-count-8
     in-count-requires-8
-    returns)
+    array-read-has-term-7
+    array-read-has-term-8
+    has-term-requires-4
+    array-read-in-count-9
+    in-count-requires-9
+    array-read-has-term-9
+    array-read-has-term-10
+    has-term-requires-5
+    returns
+    returns-2
+    returns-3
+    returns-4
+    returns-5
+    returns-6
+    returns-7
+    returns-8
+    returns-9)

@@ -2,56 +2,48 @@
 use borrow.Author.Needs.{needs}
 use borrow.Author.Tests.{eq-eqb, ne-eqb}
 use mathlib.Core.Path.{_∙_, sym}
-use Rattle.reader.proofs.judge_values.Statement.{statement}
 use Rattle.reader.specs.TableRules.{judgeValues}
+use Rattle.reader.proofs.judge_values.Statement.{statement}
 use Rattle.reader.proofs.judge_values.Tie as tie
-
-array-read-k : tie.Need-array-read-k
-array-read-k c = search needs
-
-array-read-n : tie.Need-array-read-n
-array-read-n c = search needs
-
-is-ninth-requires : tie.Need-is-ninth-requires
-is-ninth-requires c κs = search needs
 
 returns : tie.Need-returns
 unfolding judgeValues
-returns c = simp (sym (c .before .is-ninth .ensures) ∙ c .if1 .taken)
+returns c = simp (c .if1 .taken)
 
 has-range-requires : tie.Need-has-range-requires
 has-range-requires c κs = search needs
 
-rises-requires : tie.Need-rises-requires
-rises-requires c κs = search needs
+array-read-if3 : tie.Need-array-read-if3
+array-read-if3 c = search needs
 
 returns-2 : tie.Need-returns-2
 unfolding judgeValues
-returns-2 c = simp (sym (c .before .before .before .before .before .is-ninth .ensures) ∙ c .before .before .before .before .if1 .left, sym (c .before .before .before .has-range .ensures) ∙ c .before .before .if2 .taken, sym (c .before .rises .ensures) ∙ c .if3 .taken)
+returns-2 c = simp (c .before .before .before .before .before .before .before .if1 .left, sym (c .before .before .before .before .before .before .has-range .ensures) ∙ c .before .before .before .before .before .if2 .taken, c .if3 .taken)
 
 returns-3 : tie.Need-returns-3
 unfolding judgeValues
-returns-3 c = simp (sym (c .before .before .before .before .before .is-ninth .ensures) ∙ c .before .before .before .before .if1 .left, sym (c .before .before .before .has-range .ensures) ∙ c .before .before .if2 .taken, sym (c .before .rises .ensures) ∙ c .if3 .left)
+returns-3 c = simp (c .before .before .before .before .before .before .before .if1 .left, sym (c .before .before .before .before .before .before .has-range .ensures) ∙ c .before .before .before .before .before .if2 .taken, c .if3 .left)
+
+array-read-if4 : tie.Need-array-read-if4
+array-read-if4 c = search needs
 
 returns-4 : tie.Need-returns-4
 unfolding judgeValues
-returns-4 c = simp (sym (c .before .before .before .before .is-ninth .ensures) ∙ c .before .before .before .if1 .left, sym (c .before .before .has-range .ensures) ∙ c .before .if2 .left, eq-eqb _ _ (c .if4 .taken))
+returns-4 c = simp (c .before .before .before .if1 .left, sym (c .before .before .has-range .ensures) ∙ c .before .if2 .left, eq-eqb _ _ (c .if4 .taken))
 
 returns-5 : tie.Need-returns-5
 unfolding judgeValues
-returns-5 c = simp (sym (c .before .before .before .before .is-ninth .ensures) ∙ c .before .before .before .if1 .left, sym (c .before .before .has-range .ensures) ∙ c .before .if2 .left, ne-eqb _ _ (c .if4 .left))
+returns-5 c = simp (c .before .before .before .if1 .left, sym (c .before .before .has-range .ensures) ∙ c .before .if2 .left, ne-eqb _ _ (c .if4 .left))
 
 pub judge-values-spec : {M : Type 1} → statement M
 judge-values-spec =
     tie.close
     (tie.spec
-    array-read-k
-    array-read-n
-    is-ninth-requires
     returns
     has-range-requires
-    rises-requires
+    array-read-if3
     returns-2
     returns-3
+    array-read-if4
     returns-4
     returns-5)

@@ -50,7 +50,7 @@ loop-again c =
       omega arith,
       run-on tableRules (a .s .now) y _ _ (v .i) (c .before .before .before .before .before .loop-test .taken) (g .ensures) (v .inv .1),
       subst⁻¹ (λ (z : Reading Read). Few (v .i + 1) (z .lines .lines) (z .state)) (g .ensures)
-          (fed-cases tableRules (Few (v .i + 1)) y (getD (a .s .now) (v .i) 0) (omega arith, v .inv .2 .1) (λ f. (omega arith, small-advance (v .r .progress) f _ (v .r .lines .lines) (v .inv .2 .1)))),
+          (fed-cases tableRules (Few (v .i + 1)) y (getD (a .s .now) (v .i) 0) (omega arith, v .inv .2 .1) (λ f. (omega arith, small-advance (v .r .progress) _ f _ (v .r .lines .lines) (v .inv .2 .1)))),
       g .kept .1 .1 .0 ∙ v .inv .3,
     )
 
