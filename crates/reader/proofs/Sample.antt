@@ -3,7 +3,7 @@
 use mathlib.Core.List.{_++_, flatMap, List·Memᴰ, Memᴰ·append-right}
 use mathlib.Core.Path.{_≡_, refl, subst⁻¹}
 use lib.ListN.{take}
-use Rattle.automata.specs.Examples.{Claim, Means, examples, sample, loose, delivered, deliveredByOne}
+use Rattle.automata.specs.Examples.{Claim, Means, examples, ofKinds, sample, loose, delivered, deliveredByOne}
 use Rattle.automata.proofs.Examples.{examples-hold}
 use Rattle.fields.specs.Format.{glyphOf}
 use Rattle.refusals.specs.Judged.Judged.{accepted}
@@ -52,5 +52,5 @@ delivered-by-one-is = refl
 pub read-examples-hold : (c : Claim) → List·Memᴰ c readExamples → Means c
 unfolding automatonOf targetOf
 read-examples-hold c m =
-    let rows : examples ≡ take 7 examples ++ readExamples = refl in
-    examples-hold c (subst⁻¹ (List·Memᴰ c) rows (Memᴰ·append-right (take 7 examples) m))
+    let rows : examples ≡ take 7 examples ++ (readExamples ++ ofKinds) = refl in
+    examples-hold c (subst⁻¹ (List·Memᴰ c) rows (Memᴰ·append-right (take 7 examples) (Memᴰ·append-left m ofKinds)))
