@@ -7,16 +7,17 @@ use mathlib.Core.Option.{Option, none, some}
 use mathlib.Core.Path.{_≡_, refl, sym, ap, _∙_}
 use native.Mathlib.Omega.{arith}
 use borrow.Author.Tests.{le-leb}
+use Rattle.refusals.specs.declared.Refusal.{Refusal}
+use Rattle.refusals.specs.Judged.{Judged}
+use Rattle.refusals.specs.Judged.Judged.{accepted, refused}
 use Rattle.graphs.specs.Search.{Walk}
 use Rattle.automata.specs.Automaton.{Automaton}
 use Rattle.automata.specs.Questions.{question}
 use Rattle.automata.specs.Answers.{nearestTo, failing}
 use Rattle.forms.specs.TableForm.{automatonOf, targetOf}
-use Rattle.forms.specs.QuestionForm.{rowsOf}
-use Rattle.checker.specs.Files.{Files, targetFiles, questionFiles, reachFiles, searchRoom, askFiles}
-use Rattle.checker.specs.Files.Files.{read, turned}
-use Rattle.checker.specs.Reaching.{foundReply, reachReply}
-use Rattle.checker.specs.Asking.{askedReply, askReply}
+use Rattle.checker.specs.Files.{WithTarget, WithQuestion, targetFiles, questionFiles, reachFiles, searchRoom, askFiles}
+use Rattle.checker.specs.ReachReply.{foundReply, reachReply}
+use Rattle.checker.specs.AskReply.{rowsIn, askedReply, askReply}
 use Rattle.checker.specs.Editor.{reachCode, askCode}
 use Rattle.checker.specs.declared.Reaching.{Reaching}
 use Rattle.checker.specs.declared.Reaching.the-variants.{Refused}
@@ -24,7 +25,7 @@ use Rattle.checker.specs.declared.Asking.{Asking}
 use Rattle.checker.specs.declared.Asking.the-variants.{Refused as notAsked}
 use Rattle.checker.proofs.Filed.{ask-roomy}
 use Rattle.checker.proofs.Targeted.{reach-roomy}
-use Rattle.checker.proofs.Numbers.{LowFiles, target-files-low, question-files-low}
+use Rattle.checker.proofs.RefusalNumbers.{target-files-low, question-files-low}
 
 module _ (w l k r p : ℕ) (s g : List ℕ) (hw : 337 ≤ w) (hl : 10784 ≤ l) (hk : 10784 ≤ k) (hr : 97061 ≤ r) (hp : 129420 ≤ p) (q : Reaching) (e : q ≡ reachReply (reachFiles w l k r p s g)) where
   room : searchRoom w l k r p ≡ true
@@ -37,17 +38,17 @@ module _ (w l k r p : ℕ) (s g : List ℕ) (hw : 337 ≤ w) (hl : 10784 ≤ l) 
   pub reach-code : (n : ℕ) → n ≡ reachCode q → n ≡ reachCode (reachReply (targetFiles s g))
   reach-code n d = d ∙ ap reachCode same
 
-  pub reach-number : (n f i : ℕ) → q ≡ Refused n f i → n ≤ 10
+  pub reach-number : (n : Refusal) → q ≡ Refused n → n .number ≤ 10
   unfolding reachReply
-  reach-number n f i d = go (targetFiles s g) (target-files-low s g) (sym same ∙ d)
+  reach-number n d = go (targetFiles s g) (target-files-low s g n) (sym same ∙ d)
     where
-      never : (a : Automaton) (o : Option Walk) → foundReply a o ≡ Refused n f i → n ≤ 10
+      never : (a : Automaton) (o : Option Walk) → foundReply a o ≡ Refused n → n .number ≤ 10
       never a none h = let z : _≡_ {A = ℕ} 0 1 = cc in absurd (omega arith)
       never a (some x) h = let z : _≡_ {A = ℕ} 0 1 = cc in absurd (omega arith)
 
-      go : (x : Files) → LowFiles x → reachReply x ≡ Refused n f i → n ≤ 10
-      go (read t u m) low h = never (automatonOf t) (nearestTo (automatonOf t) (targetOf u)) h
-      go (turned m j y) low h = let z : m ≡ n = cc in omega arith
+      go : (x : Judged WithTarget) → (x ≡ refused n → n .number ≤ 10) → reachReply x ≡ Refused n → n .number ≤ 10
+      go (accepted f) low h = never (automatonOf (f .table)) (nearestTo (automatonOf (f .table)) (targetOf (f .target))) h
+      go (refused m) low h = let z : m ≡ n = cc in low (ap refused z)
 
 module _ (w : ℕ) (s g : List ℕ) (hw : 10784 ≤ w) (q : Asking) (e : q ≡ askReply (askFiles w s g)) where
   asked : q ≡ askReply (questionFiles s g)
@@ -56,14 +57,14 @@ module _ (w : ℕ) (s g : List ℕ) (hw : 10784 ≤ w) (q : Asking) (e : q ≡ a
   pub ask-code : (n : ℕ) → n ≡ askCode q → n ≡ askCode (askReply (questionFiles s g))
   ask-code n d = d ∙ ap askCode asked
 
-  pub ask-number : (n f i : ℕ) → q ≡ notAsked n f i → n ≤ 10
+  pub ask-number : (n : Refusal) → q ≡ notAsked n → n .number ≤ 10
   unfolding askReply
-  ask-number n f i d = go (questionFiles s g) (question-files-low s g) (sym asked ∙ d)
+  ask-number n d = go (questionFiles s g) (question-files-low s g n) (sym asked ∙ d)
     where
-      never : (a : Automaton) (o : Option ℕ) → askedReply a o ≡ notAsked n f i → n ≤ 10
+      never : (a : Automaton) (o : Option ℕ) → askedReply a o ≡ notAsked n → n .number ≤ 10
       never a none h = let z : _≡_ {A = ℕ} 0 1 = cc in absurd (omega arith)
       never a (some x) h = let z : _≡_ {A = ℕ} 0 1 = cc in absurd (omega arith)
 
-      go : (x : Files) → LowFiles x → askReply x ≡ notAsked n f i → n ≤ 10
-      go (read t u m) low h = never (automatonOf t) (failing (automatonOf t) (question (rowsOf u m))) h
-      go (turned m j y) low h = let z : m ≡ n = cc in omega arith
+      go : (x : Judged WithQuestion) → (x ≡ refused n → n .number ≤ 10) → askReply x ≡ notAsked n → n .number ≤ 10
+      go (accepted f) low h = never (automatonOf (f .table)) (failing (automatonOf (f .table)) (question (rowsIn f))) h
+      go (refused m) low h = let z : m ≡ n = cc in low (ap refused z)

@@ -2,7 +2,7 @@
 -- moment exactly if it is the first bad one (`replay-bad`); the same of steps (`steps-good`, `steps-bad`).
 -- Assumes nothing.
 use Prim.Native.Nat.{ℕ, _-_, _%_, _≤_, _<_}
-use mathlib.Core.Bool.{Bool, true, false, _&&_, not, cond}
+use mathlib.Core.Bool.{Bool, true, false, _&&_, not}
 use mathlib.Core.List.{List}
 use mathlib.Core.Logic.{_↔_}
 use mathlib.Core.Path.{_≡_, refl, sym, ap, _∙_, subst}
@@ -11,10 +11,12 @@ use borrow.Author.Tests.{leb-true, le-leb, lt-leb, eqb-true, eq-eqb}
 use lib.Dec.{T, eqb, leb}
 use lib.ListN.{length, replicate}
 use Rattle.automata.specs.Runs.{Move, isRun}
-use Rattle.forms.specs.TableForm.{automatonOf}
-use Rattle.reader.specs.Reply.{formOf}
-use Rattle.reader.specs.Table.{Outcome}
-use Rattle.reader.specs.Table.Outcome.{table, refused}
+use Rattle.forms.specs.TableForm.{formLength, automatonOf}
+use Rattle.refusals.specs.declared.Refusal.{Refusal}
+use Rattle.refusals.specs.Judged.{Judged, refusal, _then_, require}
+use Rattle.refusals.specs.Judged.Judged.{accepted, refused}
+use Rattle.refusals.proofs.Composed.{then-accepted, required, passes, fails}
+use Rattle.reader.specs.TableReply.{formOf}
 use Rattle.replay.specs.declared.Step.{Step}
 use Rattle.replay.specs.declared.Verdict.{Verdict}
 use Rattle.replay.specs.declared.Verdict.the-variants.{Bad as bad, Good as good}
@@ -26,7 +28,7 @@ use Rattle.opening.proofs.Opened.{opened-readable}
 use Rattle.checker.specs.declared.Opened.{Opened}
 use Rattle.checker.specs.declared.Replayed.{Replayed}
 use Rattle.checker.specs.declared.Replayed.the-variants.{Good, Bad, Refused}
-use Rattle.checker.specs.Replaying.{wholeLength, replied, replayedBy, replayReply, replayStepsReply, openedOf, openedRefusal}
+use Rattle.checker.specs.Replaying.{wholeLength, replied, replayed, replayReply, replayStepsReply, openedOf, openedRefusal}
 
 -- The length
 
@@ -49,50 +51,51 @@ whole-test ns w = rw (le-leb 5 (length ns) (w .start), eq-eqb ((length ns - 5) %
 -- The replies
 
 module _ (s run : List ℕ) where
-  pub short-refused : wholeLength (length run) ≡ false → Refused 9 0 0 ≡ replayReply s run
-  short-refused e = sym (ap (λ b. cond b (replayedBy (λ t. judgeFlat (automatonOf t) run) (openTable s)) (Refused 9 0 0)) e)
+  abbrev judging : List ℕ → Judged Verdict
+  judging t = accepted (judgeFlat (automatonOf t) run)
 
-  whole-reply : wholeLength (length run) ≡ true → replayReply s run ≡ replayedBy (λ t. judgeFlat (automatonOf t) run) (openTable s)
-  whole-reply e = ap (λ b. cond b (replayedBy (λ t. judgeFlat (automatonOf t) run) (openTable s)) (Refused 9 0 0)) e
+  pub short-refused : wholeLength (length run) ≡ false → Refused (refusal 9 0 0) ≡ replayReply s run
+  short-refused e = sym (ap replayed (fails (refusal 9 0 0) (λ ok. openTable s then judging) (wholeLength (length run)) e))
 
-  pub table-refused : (n f l : ℕ) → wholeLength (length run) ≡ true → openTable s ≡ refused n l → f ≡ 1 → Refused n f l ≡ replayReply s run
-  table-refused n f l e o p = ap (λ x. Refused n x l) p ∙ sym (whole-reply e ∙ ap (replayedBy (λ t. judgeFlat (automatonOf t) run)) o)
+  whole-reply : wholeLength (length run) ≡ true → replayReply s run ≡ replayed (openTable s then judging)
+  whole-reply e = ap replayed (passes (refusal 9 0 0) (λ ok. openTable s then judging) (wholeLength (length run)) e)
 
-  pub run-judged : (t : List ℕ) (v : Verdict) (q : Replayed) → wholeLength (length run) ≡ true → openTable s ≡ table t
+  pub table-refused : (r : Refusal) → wholeLength (length run) ≡ true → openTable s ≡ refused r → Refused r ≡ replayReply s run
+  table-refused r e o = sym (whole-reply e ∙ ap (λ x. replayed (x then judging)) o)
+
+  pub run-judged : (t : List ℕ) (v : Verdict) (q : Replayed) → wholeLength (length run) ≡ true → openTable s ≡ accepted t
       → v ≡ judgeFlat (automatonOf t) run → q ≡ replied v → q ≡ replayReply s run
-  run-judged t v q e o j r = r ∙ ap replied j ∙ sym (whole-reply e ∙ ap (replayedBy (λ u. judgeFlat (automatonOf u) run)) o)
+  run-judged t v q e o j r = r ∙ ap replied j ∙ sym (whole-reply e ∙ ap (λ x. replayed (x then judging)) o)
 
 -- the table of these bytes
 abbrev Table : List ℕ → List ℕ → Type 0
-Table s t = openTable s ≡ table t
+Table s t = openTable s ≡ accepted t
 
--- a reply good, or bad at a moment, is a verdict on a table that was opened
-good-verdict : (verdict : List ℕ → Verdict) (o : Outcome) → replayedBy verdict o ≡ Good → (t : List ℕ) × (o ≡ table t) × (verdict t ≡ good)
-good-verdict verdict (table t) e = go (verdict t) refl e
-  where
-    go : (v : Verdict) → verdict t ≡ v → replied v ≡ Good → (u : List ℕ) × (table t ≡ table u) × (verdict u ≡ good)
-    go good d e = (t, refl, d)
-    go (bad m) d e = let z : _≡_ {A = ℕ} 0 1 = cc in absurd (omega arith)
-good-verdict verdict (refused n l) e = let z : _≡_ {A = ℕ} 0 1 = cc in absurd (omega arith)
+-- a reply good, or bad at a moment, is a verdict
+verdict-told : (o : Judged Verdict) (v : Verdict) → replayed o ≡ replied v → o ≡ accepted v
+verdict-told (accepted good) good e = refl
+verdict-told (accepted good) (bad m) e = let z : _≡_ {A = ℕ} 0 1 = cc in absurd (omega arith)
+verdict-told (accepted (bad k)) good e = let z : _≡_ {A = ℕ} 0 1 = cc in absurd (omega arith)
+verdict-told (accepted (bad k)) (bad m) e = let p : k ≡ m = cc in ap (λ x. accepted (bad x)) p
+verdict-told (refused r) good e = let z : _≡_ {A = ℕ} 0 1 = cc in absurd (omega arith)
+verdict-told (refused r) (bad m) e = let z : _≡_ {A = ℕ} 0 1 = cc in absurd (omega arith)
 
-bad-verdict : (verdict : List ℕ → Verdict) (o : Outcome) (m : ℕ) → replayedBy verdict o ≡ Bad m → (t : List ℕ) × (o ≡ table t) × (verdict t ≡ bad m)
-bad-verdict verdict (table t) m e = go (verdict t) refl e
-  where
-    go : (v : Verdict) → verdict t ≡ v → replied v ≡ Bad m → (u : List ℕ) × (table t ≡ table u) × (verdict u ≡ bad m)
-    go good d e = let z : _≡_ {A = ℕ} 0 1 = cc in absurd (omega arith)
-    go (bad k) d e = let p : k ≡ m = cc in (t, refl, d ∙ ap bad p)
-bad-verdict verdict (refused n l) m e = let z : _≡_ {A = ℕ} 0 1 = cc in absurd (omega arith)
+-- of a table that was opened
+of-table : (s : List ℕ) (verdict : List ℕ → Verdict) (v : Verdict) → (openTable s then (λ t. accepted (verdict t))) ≡ accepted v → (t : List ℕ) × Table s t × (verdict t ≡ v)
+of-table s verdict v e =
+    let (t, o, d) = then-accepted (openTable s) (λ t. accepted (verdict t)) v e in
+    let z : verdict t ≡ v = cc in
+    (t, o, z)
 
 -- What the replies mean
 
 module _ (s : List ℕ) where
   module _ (run : List ℕ) where
-    was-whole : (q : Replayed) → replayReply s run ≡ q → (q ≡ Refused 9 0 0 → ⊥) → wholeLength (length run) ≡ true
-    was-whole q e h = go (wholeLength (length run)) refl
-      where
-        go : (b : Bool) → wholeLength (length run) ≡ b → b ≡ true
-        go true d = refl
-        go false d = absurd (h (sym e ∙ sym (short-refused s run d)))
+    -- a verdict on a run of the right length
+    judged : (v : Verdict) → replayReply s run ≡ replied v → (wholeLength (length run) ≡ true) × ((t : List ℕ) × Table s t × (judgeFlat (automatonOf t) run ≡ v))
+    judged v e =
+        let (w, d) = required (refusal 9 0 0) (λ ok. openTable s then judging s run) (wholeLength (length run)) v (verdict-told (require (wholeLength (length run)) (refusal 9 0 0) then (λ ok. openTable s then judging s run)) v e) in
+        (w, of-table s (λ t. judgeFlat (automatonOf t) run) v d)
 
     -- good exactly if the numbers are the flat form of a run from a permitted start of the table
     pub replay-good : replayReply s run ≡ Good ↔ ((t : List ℕ) × Table s t × ((v : List ℕ) × (ms : List Move) × T (isRun (automatonOf t) v ms) × (run ≡ flatRun v ms)))
@@ -100,8 +103,7 @@ module _ (s : List ℕ) where
       where
         there : replayReply s run ≡ Good → (t : List ℕ) × Table s t × ((v : List ℕ) × (ms : List Move) × T (isRun (automatonOf t) v ms) × (run ≡ flatRun v ms))
         there e =
-            let w : wholeLength (length run) ≡ true = was-whole Good e (λ d. let z : _≡_ {A = ℕ} 0 1 = cc in omega arith) in
-            let (t, o, j) = good-verdict (λ u. judgeFlat (automatonOf u) run) (openTable s) (sym (whole-reply s run w) ∙ e) in
+            let (w, (t, o, j)) = judged good e in
             (t, o, judge-good (automatonOf t) (opened-readable s t o .0 .small) run (whole-is run w) .0 j)
 
         back : ((t : List ℕ) × Table s t × ((v : List ℕ) × (ms : List Move) × T (isRun (automatonOf t) v ms) × (run ≡ flatRun v ms))) → replayReply s run ≡ Good
@@ -116,8 +118,7 @@ module _ (s : List ℕ) where
       where
         there : replayReply s run ≡ Bad m → Whole run × ((t : List ℕ) × Table s t × FirstBad (automatonOf t) (startIn run) (stepsIn run) m)
         there e =
-            let w : wholeLength (length run) ≡ true = was-whole (Bad m) e (λ d. let z : _≡_ {A = ℕ} 0 1 = cc in omega arith) in
-            let (t, o, j) = bad-verdict (λ u. judgeFlat (automatonOf u) run) (openTable s) m (sym (whole-reply s run w) ∙ e) in
+            let (w, (t, o, j)) = judged (bad m) e in
             (whole-is run w, (t, o, judge-means (automatonOf t) (startIn run) (stepsIn run) (bad m) .0 j))
 
         back : Whole run × ((t : List ℕ) × Table s t × FirstBad (automatonOf t) (startIn run) (stepsIn run) m) → replayReply s run ≡ Bad m
@@ -127,52 +128,51 @@ module _ (s : List ℕ) where
 
   -- the same of a start and steps, each with its unused slots 0
   module _ (start : List ℕ) (steps : List Step) where
-    pub steps-good : replayStepsReply s start steps ≡ Good ↔ ((t : List ℕ) × Table s t × T (goodRun (automatonOf t) start steps))
-    steps-good = (there, back)
-      where
-        there : replayStepsReply s start steps ≡ Good → (t : List ℕ) × Table s t × T (goodRun (automatonOf t) start steps)
-        there e =
-            let (t, o, j) = good-verdict (λ u. judge (automatonOf u) start steps) (openTable s) e in
-            (t, o, judge-means (automatonOf t) start steps good .0 j)
+    abbrev verdict : List ℕ → Verdict
+    verdict t = judge (automatonOf t) start steps
 
-        back : ((t : List ℕ) × Table s t × T (goodRun (automatonOf t) start steps)) → replayStepsReply s start steps ≡ Good
-        back (t, o, g) = ap (replayedBy (λ u. judge (automatonOf u) start steps)) o ∙ ap replied (judge-means (automatonOf t) start steps good .1 g)
+    steps-judged : (v : Verdict) → replayStepsReply s start steps ≡ replied v → (t : List ℕ) × Table s t × (verdict t ≡ v)
+    steps-judged v e = of-table s verdict v (verdict-told (openTable s then (λ t. accepted (verdict t))) v e)
+
+    steps-told : (t : List ℕ) (v : Verdict) → Table s t → verdict t ≡ v → replayStepsReply s start steps ≡ replied v
+    steps-told t v o e = ap (λ x. replayed (x then (λ u. accepted (verdict u)))) o ∙ ap replied e
+
+    pub steps-good : replayStepsReply s start steps ≡ Good ↔ ((t : List ℕ) × Table s t × T (goodRun (automatonOf t) start steps))
+    steps-good = (
+      (λ e. let (t, o, j) = steps-judged good e in (t, o, judge-means (automatonOf t) start steps good .0 j)),
+      (λ (t, o, g). steps-told t good o (judge-means (automatonOf t) start steps good .1 g)),
+    )
 
     pub steps-bad : (m : ℕ) → replayStepsReply s start steps ≡ Bad m ↔ ((t : List ℕ) × Table s t × FirstBad (automatonOf t) start steps m)
-    steps-bad m = (there, back)
-      where
-        there : replayStepsReply s start steps ≡ Bad m → (t : List ℕ) × Table s t × FirstBad (automatonOf t) start steps m
-        there e =
-            let (t, o, j) = bad-verdict (λ u. judge (automatonOf u) start steps) (openTable s) m e in
-            (t, o, judge-means (automatonOf t) start steps (bad m) .0 j)
-
-        back : ((t : List ℕ) × Table s t × FirstBad (automatonOf t) start steps m) → replayStepsReply s start steps ≡ Bad m
-        back (t, o, f) = ap (replayedBy (λ u. judge (automatonOf u) start steps)) o ∙ ap replied (judge-means (automatonOf t) start steps (bad m) .1 f)
+    steps-bad m = (
+      (λ e. let (t, o, j) = steps-judged (bad m) e in (t, o, judge-means (automatonOf t) start steps (bad m) .0 j)),
+      (λ (t, o, f). steps-told t (bad m) o (judge-means (automatonOf t) start steps (bad m) .1 f)),
+    )
 
 -- A table opened by value
 
 -- the value of a refusal
-pub value-refused : (s : List ℕ) (n l : ℕ) (t v : List ℕ) → openTable s ≡ refused n l → t ≡ formOf (openTable s) v → v ≡ replicate 5544 0
-    → _≡_ {A = Opened} (record { refused = true; number = n; line = l; form = t }) (openedOf (openTable s))
-value-refused s n l t v o e z =
-    let d : t ≡ replicate 5544 0 = e ∙ ap (λ x. formOf x v) o ∙ z in
-    (λ i. record { refused = true; number = n; line = l; form = d i }) ∙ sym (ap openedOf o)
+pub value-refused : (s : List ℕ) (r : Refusal) (t v : List ℕ) → openTable s ≡ refused r → t ≡ formOf (openTable s) v → v ≡ replicate formLength 0
+    → _≡_ {A = Opened} (record { refused = true; refusal = r; form = t }) (openedOf (openTable s))
+value-refused s r t v o e z =
+    let d : t ≡ replicate formLength 0 = e ∙ ap (λ x. formOf x v) o ∙ z in
+    (λ i. record { refused = true; refusal = r; form = d i }) ∙ sym (ap openedOf o)
 
 -- what a value that is no refusal says, and one that is
-pub usable : (s : List ℕ) (o : Opened) → o ≡ openedOf (openTable s) → T (not (o .refused)) → openTable s ≡ table (o .form)
+pub usable : (s : List ℕ) (o : Opened) → o ≡ openedOf (openTable s) → T (not (o .refused)) → openTable s ≡ accepted (o .form)
 usable s o e h = go (openTable s) refl e
   where
-    go : (x : Outcome) → openTable s ≡ x → o ≡ openedOf x → openTable s ≡ table (o .form)
-    go (table t) d f = d ∙ ap table (sym (ap (λ y. y .form) f))
-    go (refused n l) d f = absurd (subst (λ y. T (not (y .refused))) f h)
+    go : (x : Judged (List ℕ)) → openTable s ≡ x → o ≡ openedOf x → openTable s ≡ accepted (o .form)
+    go (accepted t) d f = d ∙ ap accepted (sym (ap (λ y. y .form) f))
+    go (refused r) d f = absurd (subst (λ y. T (not (y .refused))) f h)
 
 pub value-reply : (s start : List ℕ) (steps : List Step) (o : Opened) (r : Replayed) → o ≡ openedOf (openTable s) → T (o .refused) → r ≡ openedRefusal o → r ≡ replayStepsReply s start steps
 value-reply s start steps o r e h k = k ∙ go (openTable s) refl e
   where
-    go : (x : Outcome) → openTable s ≡ x → o ≡ openedOf x → openedRefusal o ≡ replayStepsReply s start steps
-    go (table t) d f = absurd (subst (λ y. T (y .refused)) f h)
-    go (refused n l) d f = ap openedRefusal f ∙ sym (ap (replayedBy (λ t. judge (automatonOf t) start steps)) d)
+    go : (x : Judged (List ℕ)) → openTable s ≡ x → o ≡ openedOf x → openedRefusal o ≡ replayStepsReply s start steps
+    go (accepted t) d f = absurd (subst (λ y. T (y .refused)) f h)
+    go (refused n) d f = ap openedRefusal f ∙ sym (ap (λ x. replayed (x then (λ t. accepted (judge (automatonOf t) start steps)))) d)
 
-pub steps-reply : (s start : List ℕ) (steps : List Step) (t : List ℕ) (v : Verdict) (r : Replayed) → openTable s ≡ table t → v ≡ judge (automatonOf t) start steps → r ≡ replied v
+pub steps-reply : (s start : List ℕ) (steps : List Step) (t : List ℕ) (v : Verdict) (r : Replayed) → openTable s ≡ accepted t → v ≡ judge (automatonOf t) start steps → r ≡ replied v
     → r ≡ replayStepsReply s start steps
-steps-reply s start steps t v r o e k = k ∙ ap replied e ∙ sym (ap (replayedBy (λ u. judge (automatonOf u) start steps)) o)
+steps-reply s start steps t v r o e k = k ∙ ap replied e ∙ sym (ap (λ x. replayed (x then (λ u. accepted (judge (automatonOf u) start steps)))) o)

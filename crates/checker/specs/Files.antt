@@ -1,49 +1,45 @@
 -- What a call reads from the bytes of its two files: the forms that it works on, or the first refusal in document 01's order. This is what a reader believes.
 -- Assumes nothing.
 use Prim.Native.Nat.{ℕ}
-use mathlib.Core.Bool.{Bool, cond, _&&_}
+use mathlib.Core.Bool.{Bool, _&&_}
 use mathlib.Core.List.{List}
 use lib.Dec.{leb}
-use Rattle.forms.specs.TableForm.{cell}
+use Rattle.refusals.specs.Judged.{Judged, refusal, _then_, require}
+use Rattle.refusals.specs.Judged.Judged.{accepted}
+use Rattle.automata.specs.Automaton.{Automaton}
+use Rattle.automata.specs.WellFormed.{constantCount}
+use Rattle.forms.specs.TableForm.{automatonOf}
 use Rattle.reader.specs.Table.{readTarget}
-use Rattle.reader.specs.Table as table-file
-use Rattle.reader.specs.Table.Outcome.{table, refused}
-use Rattle.questions.specs.Question.{readQuestion}
-use Rattle.questions.specs.Question as question-file
-use Rattle.questions.specs.Question.Outcome.{rows, refused as not-asked}
+use Rattle.questions.specs.Question.{Rows, readQuestion}
 use Rattle.opening.specs.Opening.{openTable}
 
--- a table's form with the form of the other file, and how many rows that has (0 for a target); or a refusal: its number, file and line
-pub data Files : Type 0 where
-  read : List ℕ → List ℕ → ℕ → Files
-  turned : ℕ → ℕ → ℕ → Files
+-- a table's form with the form of a target
+pub record WithTarget : Type 0 where
+  pub table : List ℕ
+  pub target : List ℕ
 
--- after a table of the form t: the target, which is file 2
-abbrev pub withTarget : List ℕ → table-file.Outcome → Files
-withTarget t (table g) = read t g 0
-withTarget t (refused number line) = turned number 2 line
+abbrev pub withTarget : List ℕ → List ℕ → WithTarget
+withTarget t g = record { table = t; target = g }
 
--- after a table of the form t: the question, which is file 2
-abbrev pub withQuestion : List ℕ → question-file.Outcome → Files
-withQuestion t (rows q n) = read t q n
-withQuestion t (not-asked number line) = turned number 2 line
+-- a table's form with the rows of a question
+pub record WithQuestion : Type 0 where
+  pub table : List ℕ
+  pub rows : Rows
 
--- the table, which is file 1, and then what is read after it
-abbrev pub afterTable : (List ℕ → Files) → table-file.Outcome → Files
-afterTable next (table t) = next t
-afterTable next (refused number line) = turned number 1 line
+abbrev pub withQuestion : List ℕ → Rows → WithQuestion
+withQuestion t q = record { table = t; rows = q }
 
--- a table and a target
-abbrev pub targetFiles : List ℕ → List ℕ → Files
-targetFiles s g = afterTable (λ t. withTarget t (readTarget t g)) (openTable s)
+-- a table and then its target
+abbrev pub targetFiles : List ℕ → List ℕ → Judged WithTarget
+targetFiles s g = openTable s then (λ t. readTarget t g then (λ u. accepted (withTarget t u)))
 
--- a table and a question
-abbrev pub questionFiles : List ℕ → List ℕ → Files
-questionFiles s q = afterTable (λ t. withQuestion t (readQuestion (cell t 0 1) (cell t 0 2) (cell t 0 3) q)) (openTable s)
+-- a question to an automaton
+abbrev pub questionTo : Automaton → List ℕ → Judged Rows
+questionTo a q = readQuestion (a .registers) (constantCount a) (a .locations) q
 
--- before everything: refusal 9 where a lent buffer is too short
-abbrev pub roomFor : Bool → Files → Files
-roomFor room f = cond room f (turned 9 0 0)
+-- a table and then its question
+abbrev pub questionFiles : List ℕ → List ℕ → Judged WithQuestion
+questionFiles s q = openTable s then (λ t. questionTo (automatonOf t) q then (λ r. accepted (withQuestion t r)))
 
 -- room for the words, least steps and links of a search, for a run of 10,784 steps and for its lines
 abbrev pub searchRoom : ℕ → ℕ → ℕ → ℕ → ℕ → Bool
@@ -53,10 +49,10 @@ searchRoom words least links run lines = leb 337 words && leb 10784 least && leb
 abbrev pub rowsRoom : ℕ → Bool
 rowsRoom words = leb 10784 words
 
--- what the call on a question reads, where so many words are lent for its rows
-unfoldable pub askFiles : ℕ → List ℕ → List ℕ → Files
-askFiles words s q = roomFor (rowsRoom words) (questionFiles s q)
+-- what the call on a question reads, where so many words are lent for its rows: 9 comes before every refusal of a file
+unfoldable pub askFiles : ℕ → List ℕ → List ℕ → Judged WithQuestion
+askFiles words s q = require (rowsRoom words) (refusal 9 0 0) then (λ ok. questionFiles s q)
 
 -- what the call on a target reads, where its five buffers have these lengths
-unfoldable pub reachFiles : ℕ → ℕ → ℕ → ℕ → ℕ → List ℕ → List ℕ → Files
-reachFiles words least links run lines s g = roomFor (searchRoom words least links run lines) (targetFiles s g)
+unfoldable pub reachFiles : ℕ → ℕ → ℕ → ℕ → ℕ → List ℕ → List ℕ → Judged WithTarget
+reachFiles words least links run lines s g = require (searchRoom words least links run lines) (refusal 9 0 0) then (λ ok. targetFiles s g)

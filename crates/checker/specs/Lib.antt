@@ -1,12 +1,10 @@
 -- What the contracts of the public calls cite.
-pub mod Refusals
 pub mod Files
-pub mod Runs
+pub mod Reachable
 pub mod Truth
-pub mod Reaching
-pub mod Asking
+pub mod ReachReply
+pub mod AskReply
 pub mod Replaying
-pub mod Steps
-pub mod Counts
+pub mod StepReplies
 pub mod Demand
 pub mod Editor

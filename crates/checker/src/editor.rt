@@ -3,8 +3,8 @@ ghost use mathlib.Core.Path.{_≡_};
 ghost use Prim.Native.Nat.{_≤_};
 ghost use lib.ListN.{length};
 ghost use Rattle.checker.specs.Files.{targetFiles, questionFiles};
-ghost use Rattle.checker.specs.Reaching.{reachReply};
-ghost use Rattle.checker.specs.Asking.{askReply};
+ghost use Rattle.checker.specs.ReachReply.{reachReply};
+ghost use Rattle.checker.specs.AskReply.{askReply};
 ghost use Rattle.checker.specs.Editor.{reachCode, askCode};
 use crate::Asking;
 use crate::Reaching;
@@ -31,11 +31,7 @@ fn reach_over(
             steps: _,
             reached: _,
         } => 1,
-        Reaching::Refused {
-            number,
-            file: _,
-            line: _,
-        } => 100 + number,
+        Reaching::Refused(r) => 100 + r.number,
     }
 }
 
@@ -52,11 +48,7 @@ fn ask_over(table: &[u8], question: &[u8], rows: &mut [u32]) -> u32
             class: _,
             registers: _,
         } => 0,
-        Asking::Refused {
-            number,
-            file: _,
-            line: _,
-        } => 100 + number,
+        Asking::Refused(r) => 100 + r.number,
     }
 }
 

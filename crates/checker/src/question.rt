@@ -9,15 +9,16 @@ ghost use Rattle.automata.specs.Answers.{failing};
 ghost use Rattle.automata.specs.WellFormed.{fitsQuestion};
 ghost use Rattle.forms.specs.TableForm.{automatonOf};
 ghost use Rattle.forms.specs.QuestionForm.{rowsOf};
+ghost use Rattle.forms.specs.Readable.{Readable};
+ghost use Rattle.questions.specs.QuestionReply.{replyOf, formOf};
 ghost use Rattle.forms.specs.ClassLabels.{Lent};
 ghost use Rattle.formulas.specs.Rows.{shown};
-ghost use Rattle.checker.specs.Files.{askFiles};
-ghost use Rattle.checker.specs.Asking.{askedReply, askedContents, askReply, askRows, askContents};
+ghost use Rattle.checker.specs.Files.{questionTo, askFiles};
+ghost use Rattle.checker.specs.AskReply.{askedReply, askedContents, askReply, askRows, askContents};
 ghost use Rattle.checker.specs.Demand.{AskMeans};
 use crate::Asking;
-use crate::given::class_contents;
 use crate::given::classes_in;
-use crate::given::wide;
+use refusals::Refusal;
 
 // Asks a question of an opened table, over memory for its step rows.
 fn answer_over(
@@ -38,10 +39,10 @@ fn answer_over(
     match answer {
         formulas::Answer::Yes => Asking::Yes,
         formulas::Answer::No(class) => {
-            *contents = class_contents(form, cat, n, class);
+            *contents = concretization::class_contents(form, cat, n, class);
             Asking::No {
                 class: class,
-                registers: wide(form[1]),
+                registers: forms::registers(form),
             }
         }
     }
@@ -63,35 +64,38 @@ fn answer(
     answer_over(&mut steps, form, cat, question, count, rows, contents)
 }
 
+// Reads a question to an opened table; a refusal leaves the rows as they are.
+fn read_rows(form: &[u32], question: &[u8], rows: &mut [u32; 96]) -> questions::Reply
+    requires { ⌜ Readable (now form) ⌝ }
+    ensures { λ r. ⌜ (r ≡ replyOf (questionTo (automatonOf (now (form .entry))) (now (question .entry)))) × (now (rows .exit) ≡ formOf (questionTo (automatonOf (now (form .entry))) (now (question .entry))) (now (rows .entry))) ⌝ }
+{
+    let registers = forms::registers(form) as u32;
+    let constants = forms::constants(form) as u32;
+    let locations = forms::locations(form) as u32;
+    questions::read_question(registers, constants, locations, question, rows)
+}
+
 // Whether a question holds at every permitted start of a table. Refusals write nothing.
 pub fn ask(table: &[u8], question: &[u8], rows: &mut [u32], contents: &mut [u32; 5]) -> Asking
     ensures { λ r. ⌜ (r ≡ askReply (askFiles (length (now (rows .entry))) (now (table .entry)) (now (question .entry)))) × (now (rows .exit) ≡ askRows (askFiles (length (now (rows .entry))) (now (table .entry)) (now (question .entry))) (now (rows .entry))) × (now (contents .exit) ≡ askContents (askFiles (length (now (rows .entry))) (now (table .entry)) (now (question .entry))) (now (contents .entry))) × AskMeans (askFiles (length (now (rows .entry))) (now (table .entry)) (now (question .entry))) r (now (rows .exit)) (now (contents .exit)) ⌝ }
 {
     if rows.len() < 10784 {
-        return Asking::Refused {
+        return Asking::Refused(Refusal {
             number: 9,
             file: 0,
             line: 0,
-        };
+        });
     }
     let mut form = [0u32; 5544];
     let mut labels = [0u8; 3370];
     let opened = opening::open_table(table, &mut form, &mut labels);
     match opened {
-        reader::Reply::Refused { number, file, line } => Asking::Refused {
-            number: number,
-            file: file,
-            line: line,
-        },
+        reader::Reply::Refused(r) => Asking::Refused(r),
         reader::Reply::Accepted => {
             let mut lines = [0u32; 96];
-            let reply = questions::read_question(form[1], form[2], form[3], question, &mut lines);
+            let reply = read_rows(&form, question, &mut lines);
             match reply {
-                questions::Reply::Refused { number, line } => Asking::Refused {
-                    number: number,
-                    file: 2,
-                    line: line,
-                },
+                questions::Reply::Refused(r) => Asking::Refused(r),
                 questions::Reply::Accepted(count) => {
                     answer(&form, &labels, &lines, count, rows, contents)
                 }

@@ -5,7 +5,9 @@ ghost use Rattle.opening.specs.Opening.{openTable};
 ghost use Rattle.checker.specs.Replaying.{wholeLength, replied, replayReply, replayStepsReply, openedOf, openedRefusal};
 use crate::Opened;
 use crate::Replayed;
+use forms::Form;
 use reader::Reply;
+use refusals::Refusal;
 use replay::Step;
 use replay::Verdict;
 
@@ -33,22 +35,18 @@ pub fn replay(table: &[u8], run: &[u32]) -> Replayed
     ensures { λ r. ⌜ r ≡ replayReply (now (table .entry)) (now (run .entry)) ⌝ }
 {
     if !whole(run.len()) {
-        return Replayed::Refused {
+        return Replayed::Refused(Refusal {
             number: 9,
             file: 0,
             line: 0,
-        };
+        });
     }
     let mut form = [0u32; 5544];
     let mut labels = [0u8; 3370];
     let reply = opening::open_table(table, &mut form, &mut labels);
     match reply {
         Reply::Accepted => reply_of(replay::replay(&form, run)),
-        Reply::Refused { number, file, line } => Replayed::Refused {
-            number: number,
-            file: file,
-            line: line,
-        },
+        Reply::Refused(r) => Replayed::Refused(r),
     }
 }
 
@@ -61,18 +59,16 @@ fn opening(table: &[u8]) -> Opened
     match reply {
         Reply::Accepted => Opened {
             refused: false,
-            number: 0,
-            line: 0,
+            refusal: Refusal {
+                number: 0,
+                file: 0,
+                line: 0,
+            },
             form: form,
         },
-        Reply::Refused {
-            number,
-            file: _,
-            line,
-        } => Opened {
+        Reply::Refused(r) => Opened {
             refused: true,
-            number: number,
-            line: line,
+            refusal: r,
             form: form,
         },
     }
@@ -84,7 +80,7 @@ fn is_refused(o: Opened) -> bool
     o.refused
 }
 
-fn form_of(o: Opened) -> [u32; 5544]
+fn form_of(o: Opened) -> Form
     ensures { λ r. ⌜ r ≡ o .form ⌝ }
 {
     o.form
@@ -93,11 +89,8 @@ fn form_of(o: Opened) -> [u32; 5544]
 fn refusal_of(o: Opened) -> Replayed
     ensures { λ r. ⌜ r ≡ openedRefusal o ⌝ }
 {
-    Replayed::Refused {
-        number: o.number,
-        file: 1,
-        line: o.line,
-    }
+    let refusal = o.refusal;
+    Replayed::Refused(refusal)
 }
 
 // Judges a run that is lent as steps.

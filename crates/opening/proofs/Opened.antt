@@ -1,84 +1,75 @@
 -- What holds of a table that is opened: it is readable, its labels are those of its classes, and it has a start; refusal 7 is right.
 -- Assumes nothing.
-use mathlib.Core.Bool.{Bool, true, false, cond}
+use mathlib.Core.Bool.{Bool, true, false}
 use mathlib.Core.List.{List}
-use mathlib.Core.Path.{_≡_, refl, sym, ap, _∙_}
+use mathlib.Core.Path.{_≡_, refl, sym, ap, _∙_, subst, subst⁻¹}
 use Prim.Native.Nat.{ℕ}
 use native.Mathlib.Omega.{arith}
 use lib.Dec.{T}
+use Rattle.refusals.specs.declared.Refusal.{Refusal}
+use Rattle.refusals.specs.Judged.{Judged, refusal, _then_, require}
+use Rattle.refusals.specs.Judged.Judged.{accepted, refused}
+use Rattle.refusals.proofs.Composed.{then-accepted, required, passes, fails}
 use Rattle.automata.specs.Runs.{permitted}
 use Rattle.forms.specs.TableForm.{automatonOf}
-use Rattle.reader.specs.Table.{Outcome, readTable}
-use Rattle.reader.specs.Table.Outcome.{table, refused}
-use Rattle.reader.specs.Reply.{replyOf, formOf}
+use Rattle.forms.specs.Readable.{Readable}
+use Rattle.reader.specs.Table.{readTable}
+use Rattle.reader.specs.TableReply.{replyOf, formOf}
 use Rattle.reader.specs.declared.Reply.{Reply}
 use Rattle.reader.specs.declared.Reply.the-variants.{Accepted, Refused}
-use Rattle.reader.proofs.Outcomes.{accepted-table}
 use Rattle.reader.proofs.Legal.{legal}
 use Rattle.reader.proofs.WellFormed.{table-well-formed}
-use Rattle.forms.specs.Readable.{Readable}
 use Rattle.conditions.specs.Startable.{startable}
 use Rattle.conditions.proofs.Exact.{startable-exact}
 use Rattle.opening.specs.Opening.{withStart, openTable, labelsOf}
 
 -- a table that is read has a readable form
-pub read-readable : (s t : List ℕ) → readTable s ≡ table t → Readable t
+pub read-readable : (s t : List ℕ) → readTable s ≡ accepted t → Readable t
 read-readable s t e =
     let (fits, small) = table-well-formed s t e in
     record { long = legal s t e .size; fits = fits; small = small }
 
--- what the reader's reply and buffer say of the outcome
-pub was-read : (s t v : List ℕ) (q : Reply) → q ≡ replyOf 1 (readTable s) → q ≡ Accepted → t ≡ formOf (readTable s) v → readTable s ≡ table t
-was-read s t v q e d f = accepted-table 1 (readTable s) v (sym e ∙ d) ∙ ap table (sym f)
-
-pub opened : (s t : List ℕ) → readTable s ≡ table t → startable (automatonOf t) ≡ true → openTable s ≡ table t
+pub opened : (s t : List ℕ) → readTable s ≡ accepted t → startable (automatonOf t) ≡ true → openTable s ≡ accepted t
 unfolding openTable
-opened s t e h = ap withStart e ∙ ap (λ b. cond b (table t) (refused 7 0)) h
+opened s t e h = ap (λ j. j then withStart) e ∙ passes (refusal 7 1 0) (λ ok. accepted t) (startable (automatonOf t)) h
 
-pub no-start : (s t : List ℕ) → readTable s ≡ table t → startable (automatonOf t) ≡ false → openTable s ≡ refused 7 0
+pub no-start : (s t : List ℕ) → readTable s ≡ accepted t → startable (automatonOf t) ≡ false → openTable s ≡ refused (refusal 7 1 0)
 unfolding openTable
-no-start s t e h = ap withStart e ∙ ap (λ b. cond b (table t) (refused 7 0)) h
+no-start s t e h = ap (λ j. j then withStart) e ∙ fails (refusal 7 1 0) (λ ok. accepted t) (startable (automatonOf t)) h
 
--- an outcome that is no table stays as it is, and leaves the buffers alone
-refused-stays : (o : Outcome) → (replyOf 1 o ≡ Accepted → ⊥) → (withStart o ≡ o) × ((v : List ℕ) → formOf o v ≡ v) × ((v : List ℕ) → labelsOf o v ≡ v)
-refused-stays (table t) h = absurd (h refl)
-refused-stays (refused n l) h = (refl, λ v. refl, λ v. refl)
-
-pub refused-not : (q : Reply) (n f l : ℕ) → q ≡ Refused n f l → q ≡ Accepted → ⊥
-refused-not q n f l e d = let z : _≡_ {A = ℕ} 0 1 = cc in omega arith
-
-pub not-read : (s : List ℕ) (q : Reply) → q ≡ replyOf 1 (readTable s) → (q ≡ Accepted → ⊥)
-    → (q ≡ replyOf 1 (openTable s)) × ((v : List ℕ) → v ≡ formOf (openTable s) v) × ((v : List ℕ) → v ≡ labelsOf (openTable s) v)
+-- a reader's refusal is that of opening, which leaves the buffers alone
+pub not-read : (s : List ℕ) (q : Reply) (r : Refusal) → q ≡ replyOf (readTable s) → q ≡ Refused r
+    → (q ≡ replyOf (openTable s)) × ((v : List ℕ) → v ≡ formOf (openTable s) v) × ((v : List ℕ) → v ≡ labelsOf (openTable s) v)
 unfolding openTable
-not-read s q e h =
-    let (same, form, labels) = refused-stays (readTable s) (λ d. h (e ∙ d)) in
-    (e ∙ ap (replyOf 1) (sym same), λ v. sym (ap (λ o. formOf o v) same ∙ form v), λ v. sym (ap (λ o. labelsOf o v) same ∙ labels v))
-
--- what an opened table is: read as its lines say, and with a start
-pub opened-readable : (s t : List ℕ) → openTable s ≡ table t → Readable t × ((v : List ℕ) × T (permitted (automatonOf t) v))
-unfolding openTable
-opened-readable s t e = go (readTable s) refl e
+not-read s q r e d = go (readTable s) (sym e ∙ d)
   where
-    go : (o : Outcome) → readTable s ≡ o → withStart o ≡ table t → Readable t × ((v : List ℕ) × T (permitted (automatonOf t) v))
-    go (table u) r d = test (startable (automatonOf u)) refl d
-      where
-        test : (b : Bool) → startable (automatonOf u) ≡ b → cond b (table u) (refused 7 0) ≡ table t → Readable t × ((v : List ℕ) × T (permitted (automatonOf t) v))
-        test true h k =
-            let same : u ≡ t = cc in
-            let readable : Readable t = read-readable s t (r ∙ ap table same) in
-            let startable-t : T (startable (automatonOf t)) = rw (ap (λ x. startable (automatonOf x)) (sym same) ∙ h) tt in
-            (readable, startable-exact (automatonOf t) (readable .fits) .0 startable-t)
-        test false h k = let z : _≡_ {A = ℕ} 0 1 = cc in absurd (omega arith)
-    go (refused n l) r d = let z : _≡_ {A = ℕ} 0 1 = cc in absurd (omega arith)
+    go : (j : Judged (List ℕ)) → replyOf j ≡ Refused r
+        → (q ≡ replyOf (j then withStart)) × ((v : List ℕ) → v ≡ formOf (j then withStart) v) × ((v : List ℕ) → v ≡ labelsOf (j then withStart) v)
+    go (accepted t) h = let z : _≡_ {A = ℕ} 0 1 = cc in absurd (omega arith)
+    go (refused n) h = (d ∙ sym h, λ v. refl, λ v. refl)
+
+-- a table that is opened is one that is read, and has a start
+opened-means : (s t : List ℕ) → openTable s ≡ accepted t → (readTable s ≡ accepted t) × (startable (automatonOf t) ≡ true)
+unfolding openTable
+opened-means s t e =
+    let (u, r, d) = then-accepted (readTable s) withStart t e in
+    let (h, k) = required (refusal 7 1 0) (λ ok. accepted u) (startable (automatonOf u)) t d in
+    let same : u ≡ t = cc in
+    (r ∙ ap accepted same, subst (λ x. startable (automatonOf x) ≡ true) same h)
+
+pub opened-read : (s t : List ℕ) → openTable s ≡ accepted t → readTable s ≡ accepted t
+opened-read s t e = opened-means s t e .0
+
+pub opened-readable : (s t : List ℕ) → openTable s ≡ accepted t → Readable t × ((v : List ℕ) × T (permitted (automatonOf t) v))
+opened-readable s t e =
+    let (r, h) = opened-means s t e in
+    let readable : Readable t = read-readable s t r in
+    (readable, startable-exact (automatonOf t) (readable .fits) .0 (subst⁻¹ T h tt))
 
 -- refusal 7 is right: the lines are read, and no contents meet the start conditions
-pub refusal-7 : (s t : List ℕ) → readTable s ≡ table t → openTable s ≡ refused 7 0 → (v : List ℕ) → T (permitted (automatonOf t) v) → ⊥
-unfolding openTable
-refusal-7 s t e d v p =
-    let readable : Readable t = read-readable s t e in
-    let h : T (startable (automatonOf t)) = startable-exact (automatonOf t) (readable .fits) .1 (v, p) in
-    go (startable (automatonOf t)) h (sym (ap withStart e) ∙ d)
+pub refusal-7 : (s t : List ℕ) → readTable s ≡ accepted t → openTable s ≡ refused (refusal 7 1 0) → (v : List ℕ) → T (permitted (automatonOf t) v) → ⊥
+refusal-7 s t e d v p = go (startable (automatonOf t)) refl (startable-exact (automatonOf t) (read-readable s t e .fits) .1 (v, p))
   where
-    go : (b : Bool) → T b → cond b (table t) (refused 7 0) ≡ refused 7 0 → ⊥
-    go true h k = let z : _≡_ {A = ℕ} 0 1 = cc in omega arith
-    go false h k = h
+    go : (b : Bool) → startable (automatonOf t) ≡ b → T b → ⊥
+    go true h k = let z : accepted t ≡ refused (refusal 7 1 0) = sym (opened s t e h) ∙ d in let y : _≡_ {A = ℕ} 0 1 = cc in omega arith
+    go false h k = k

@@ -1,30 +1,28 @@
 -- What opening a table gives, for every list of bytes: its form and its classes, or the refusal; refusal 7 comes after all lines. This is what a reader believes.
 -- Assumes nothing.
 use Prim.Native.Nat.{ℕ}
-use mathlib.Core.Bool.{cond}
 use mathlib.Core.List.{List}
 use lib.ListN.{replicate}
+use Rattle.refusals.specs.Judged.{Judged, refusal, _then_, require, left}
+use Rattle.refusals.specs.Judged.Judged.{accepted}
 use Rattle.forms.specs.TableForm.{cell, automatonOf}
-use Rattle.reader.specs.Table.{Outcome, readTable}
-use Rattle.reader.specs.Table.Outcome.{table, refused}
+use Rattle.reader.specs.Table.{readTable}
 use Rattle.lists.specs.Arrays.{written}
 use Rattle.catalogue.specs.Serving.{labelRows}
 use Rattle.conditions.specs.Startable.{startable}
 
 -- a table that was read has a start, or is refused by number 7 at line 0
-abbrev pub withStart : Outcome → Outcome
-withStart (table t) = cond (startable (automatonOf t)) (table t) (refused 7 0)
-withStart (refused number line) = refused number line
+abbrev pub withStart : List ℕ → Judged (List ℕ)
+withStart t = require (startable (automatonOf t)) (refusal 7 1 0) then (λ ok. accepted t)
 
 -- the form of a table that can be used, or its refusal
-unfoldable pub openTable : List ℕ → Outcome
-openTable s = withStart (readTable s)
+unfoldable pub openTable : List ℕ → Judged (List ℕ)
+openTable s = readTable s then withStart
 
 -- the labels of all classes of a table, five to a class, in an array of 3,370
 abbrev pub classLabels : List ℕ → List ℕ
 classLabels t = written (labelRows (cell t 0 1) (cell t 0 2)) (replicate 3370 0)
 
 -- a refusal leaves the labels as they were
-abbrev pub labelsOf : Outcome → List ℕ → List ℕ
-labelsOf (table t) cat = classLabels t
-labelsOf (refused number line) cat = cat
+abbrev pub labelsOf : Judged (List ℕ) → List ℕ → List ℕ
+labelsOf j cat = left j classLabels cat

@@ -4,13 +4,15 @@ ghost use mathlib.Core.Path.{_≡_};
 ghost use Prim.Native.Nat.{_≤_};
 ghost use lib.ListN.{length};
 ghost use Rattle.forms.specs.TableForm.{cell, automatonOf};
-ghost use Rattle.reader.specs.Reply.{replyOf, formOf};
+ghost use Rattle.reader.specs.TableReply.{replyOf, formOf};
 ghost use Rattle.forms.specs.Readable.{Readable};
 ghost use Rattle.lists.specs.Arrays.{written};
 ghost use Rattle.catalogue.specs.Serving.{labelRows};
 ghost use Rattle.conditions.specs.Startable.{startable};
 ghost use Rattle.opening.specs.Opening.{openTable, labelsOf};
+use forms::Form;
 use reader::Reply;
+use refusals::Refusal;
 
 // Writes the labels of all classes of these counts.
 pub fn fill_classes(registers: usize, constants: usize, flat: &mut [u8])
@@ -42,8 +44,8 @@ pub fn classes_start(form: &[u32], flat: &mut [u8]) -> bool
 }
 
 // Reads a table to the form and the labels of its classes; a refusal leaves both as they are.
-pub fn open_table(s: &[u8], form: &mut [u32; 5544], labels: &mut [u8; 3370]) -> Reply
-    ensures { λ r. ⌜ (r ≡ replyOf 1 (openTable (now (s .entry)))) × (now (form .exit) ≡ formOf (openTable (now (s .entry))) (now (form .entry))) × (now (labels .exit) ≡ labelsOf (openTable (now (s .entry))) (now (labels .entry))) ⌝ }
+pub fn open_table(s: &[u8], form: &mut Form, labels: &mut [u8; 3370]) -> Reply
+    ensures { λ r. ⌜ (r ≡ replyOf (openTable (now (s .entry)))) × (now (form .exit) ≡ formOf (openTable (now (s .entry))) (now (form .entry))) × (now (labels .exit) ≡ labelsOf (openTable (now (s .entry))) (now (labels .entry))) ⌝ }
 {
     let mut read = [0u32; 5544];
     let reply = reader::read_table(s, &mut read);
@@ -54,11 +56,11 @@ pub fn open_table(s: &[u8], form: &mut [u32; 5544], labels: &mut [u8; 3370]) -> 
             *labels = flat;
             return Reply::Accepted;
         }
-        return Reply::Refused {
+        return Reply::Refused(Refusal {
             number: 7,
             file: 1,
             line: 0,
-        };
+        });
     }
     reply
 }

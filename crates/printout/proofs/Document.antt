@@ -18,23 +18,23 @@ use Rattle.automata.specs.Answers.{nearestTo}
 use Rattle.automata.specs.WellFormed.{fitsTarget}
 use Rattle.moves.specs.Runs.{walkContents, walkMoves}
 use Rattle.forms.specs.TableForm.{automatonOf, targetOf}
+use Rattle.refusals.specs.Judged.{Judged, _then_}
+use Rattle.refusals.specs.Judged.Judged.{accepted}
 use Rattle.reader.specs.Table.{readTarget}
-use Rattle.reader.specs.Table.Outcome.{table}
 use Rattle.reader.proofs.WellFormed.{target-fits}
 use Rattle.forms.specs.Readable.{Readable}
 use Rattle.lists.specs.Arrays.{padded}
 use Rattle.forms.proofs.Forms.{Limits, form-limits}
 use Rattle.opening.specs.Opening.{openTable}
-use Rattle.opening.proofs.Opened.{opened-readable}
+use Rattle.opening.proofs.Opened.{opened-read, opened-readable}
 use Rattle.concretization.specs.RunLines.{linesFrom, momentNumbers, slotted}
 use Rattle.witness.specs.Printed.{withLines, reachedCount}
 use Rattle.witness.proofs.Judged.{printed-right}
-use Rattle.checker.specs.Files.{Files, withTarget, afterTable, reachFiles}
-use Rattle.checker.specs.Files.Files.{read}
-use Rattle.checker.specs.Reaching.{foundReply, reachReply, reachLines}
-use Rattle.checker.proofs.Targeted.{opened-read, reach-roomy}
+use Rattle.checker.specs.Files.{WithTarget, withTarget, reachFiles}
+use Rattle.checker.specs.ReachReply.{foundReply, reachReply, reachLines}
+use Rattle.checker.proofs.Targeted.{target-after, reach-roomy}
 use Rattle.printout.specs.Text.{line, shown, moments}
-use Rattle.printout.specs.Answers.{reachText, reachPrintout}
+use Rattle.printout.specs.AnswerNumbers.{reachText, reachPrintout}
 use Rattle.printout.specs.Document.{momentsNumbers, documentLines, inLines}
 
 -- Slots
@@ -116,10 +116,10 @@ module _ (t : List ℕ) (r : Readable t) (g : Target) (fits : T (fitsTarget (aut
           ∙ ap (λ y. line x ++ y) (moments-run a few 1 (initial a v) ms rest f))
 
 -- of bytes that are a table and a target of these forms
-pub printed-document : (s g t u : List ℕ) → openTable s ≡ table t → readTarget t g ≡ table u → reachPrintout s g ≡ inLines (documentLines (automatonOf t) (nearestTo (automatonOf t) (targetOf u)))
+pub printed-document : (s g t u : List ℕ) → openTable s ≡ accepted t → readTarget t g ≡ accepted u → reachPrintout s g ≡ inLines (documentLines (automatonOf t) (nearestTo (automatonOf t) (targetOf u)))
 unfolding reachPrintout reachReply reachLines
 printed-document s g t u e d =
-    let f : reachFiles 337 10784 10784 97061 129420 s g ≡ read t u 0 =
-    reach-roomy 337 10784 10784 97061 129420 s g refl ∙ ap (afterTable (λ x. withTarget x (readTarget x g))) e ∙ ap (withTarget t) d in
-    ap (λ (x : Files). reachText (reachReply x) (reachLines x (replicate 129420 0))) f
+    let f : reachFiles 337 10784 10784 97061 129420 s g ≡ accepted (withTarget t u) =
+    reach-roomy 337 10784 10784 97061 129420 s g refl ∙ ap (λ o. o then target-after g) e ∙ ap (λ o. o then (λ y. accepted (withTarget t y))) d in
+    ap (λ (x : Judged WithTarget). reachText (reachReply x) (reachLines x (replicate 129420 0))) f
     ∙ found-document t (opened-readable s t e .0) (targetOf u) (target-fits s t g u (opened-read s t e) d .0) (replicate 129420 0)

@@ -1,5 +1,5 @@
 -- What the proofs of the printouts share.
 pub mod Bytes
-pub mod Bounds
+pub mod PrintedBounds
 pub mod Whole
 pub mod Document

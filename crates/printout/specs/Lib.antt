@@ -1,4 +1,4 @@
 -- What the contracts of the printouts cite.
 pub mod Text
-pub mod Answers
+pub mod AnswerNumbers
 pub mod Document

@@ -3,7 +3,7 @@ ghost use mathlib.Core.Path.{_≡_};
 ghost use Prim.Native.Nat.{_≤_, min};
 ghost use lib.ListN.{take};
 ghost use Rattle.io.specs.Counts.{Counts};
-ghost use Rattle.printout.specs.Answers.{classOf, askNumbers, askPrintout};
+ghost use Rattle.printout.specs.AnswerNumbers.{classOf, askNumbers, askPrintout};
 use crate::files::read_file;
 use crate::text::put_line;
 use checker::Asking;
@@ -45,9 +45,9 @@ fn first_line(reply: Asking, contents: [u32; 5]) -> Numbers
                 contents[4],
             ],
         },
-        Asking::Refused { number, file, line } => Numbers {
+        Asking::Refused(r) => Numbers {
             count: 4,
-            values: [2, number, file, line, 0, 0, 0],
+            values: [2, r.number, r.file, r.line, 0, 0, 0],
         },
     }
 }

@@ -3,7 +3,7 @@ ghost use mathlib.Core.Path.{_≡_};
 ghost use Prim.Native.Nat.{_≤_};
 ghost use lib.ListN.{length, take};
 ghost use Rattle.io.specs.Counts.{Counts};
-ghost use Rattle.printout.specs.Answers.{reachNumbers, momentCount, reachText, reachPrintout};
+ghost use Rattle.printout.specs.AnswerNumbers.{reachNumbers, momentCount, reachText, reachPrintout};
 use crate::files::read_file;
 use crate::text::put_line;
 use crate::text::put_moments;
@@ -29,9 +29,9 @@ fn first_line(reply: Reaching) -> Numbers
             count: 3,
             values: [1, steps as u32, reached, 0],
         },
-        Reaching::Refused { number, file, line } => Numbers {
+        Reaching::Refused(r) => Numbers {
             count: 4,
-            values: [2, number, file, line],
+            values: [2, r.number, r.file, r.line],
         },
     }
 }
@@ -44,11 +44,7 @@ fn moments(reply: Reaching) -> usize
     match reply {
         Reaching::Never { reached: _ } => 0,
         Reaching::Reached { steps, reached: _ } => steps + 1,
-        Reaching::Refused {
-            number: _,
-            file: _,
-            line: _,
-        } => 0,
+        Reaching::Refused(_) => 0,
     }
 }
 

@@ -1,6 +1,6 @@
 -- Document 01's sample, read by the definitions: by computation.
 -- Assumes nothing.
-use mathlib.Core.List.{_++_, flatMap, List·Memᴰ, Memᴰ·append-right}
+use mathlib.Core.List.{_++_, flatMap, List·Memᴰ, Memᴰ·append-left, Memᴰ·append-right}
 use mathlib.Core.Path.{_≡_, refl, subst⁻¹}
 use lib.ListN.{take}
 use Rattle.automata.specs.Examples.{Claim, Means, examples, ofKinds, sample, loose, delivered, deliveredByOne}
@@ -53,4 +53,4 @@ pub read-examples-hold : (c : Claim) → List·Memᴰ c readExamples → Means c
 unfolding automatonOf targetOf
 read-examples-hold c m =
     let rows : examples ≡ take 7 examples ++ (readExamples ++ ofKinds) = refl in
-    examples-hold c (subst⁻¹ (List·Memᴰ c) rows (Memᴰ·append-right (take 7 examples) (Memᴰ·append-left m ofKinds)))
+    examples-hold c (subst⁻¹ (List·Memᴰ c) rows (Memᴰ·append-right (take 7 examples) (Memᴰ·append-left ofKinds m)))

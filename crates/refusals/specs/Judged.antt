@@ -2,16 +2,23 @@
 -- Assumes nothing.
 use Prim.Native.Nat.{ℕ}
 use mathlib.Core.Bool.{Bool, cond}
+use mathlib.Core.List.{List, [], _∷_}
 use Rattle.refusals.specs.declared.Refusal.{Refusal}
 
 -- the refusal of this number, in this file (1 the table, 2 the other, 0 none), at this line (0: none)
 abbrev pub refusal : (number file line : ℕ) → Refusal
 refusal number file line = record { number = number; file = file; line = line }
 
+-- document 01's numbers of a refusal
+abbrev pub refusalNumbers : Refusal → List ℕ
+refusalNumbers r = r .number ∷ r .file ∷ r .line ∷ []
+
 -- what is read from an input, or its refusal
 pub data Judged (A : Type 0) : Type 0 where
   accepted : A → Judged A
   refused : Refusal → Judged A
+
+infixl 1 _then_
 
 -- first the one, and then, where it accepts, the next, which may look at what was read
 abbrev pub _then_ : {A B : Type 0} → Judged A → (A → Judged B) → Judged B

@@ -1,4 +1,5 @@
 // Tries the examples of document 01 that carry no star, and random cases with the independent engine's results: for each group prints how many cases had which reply, and how many differ from the engine's.
+use checker::Refusal;
 use libc::STDOUT_FILENO;
 
 // A case's header: twenty numbers of sixteen hexadecimal digits, each with one byte behind it (the engine's src/trials.rs says what they are).
@@ -152,12 +153,12 @@ fn kept16(s: &[u16], from: usize) -> bool {
 }
 
 // Whether a refusal is the one that stands in the header from field i on.
-fn same_refusal(header: &[u8; 340], i: u32, number: u32, file: u32, line: u32) -> bool {
+fn same_refusal(header: &[u8; 340], i: u32, r: Refusal) -> bool {
     let at = i % 17;
     told(header, at, 2)
-        & told(header, at + 1, number as u64)
-        & told(header, at + 2, file as u64)
-        & told(header, at + 3, line as u64)
+        & told(header, at + 1, r.number as u64)
+        & told(header, at + 2, r.file as u64)
+        & told(header, at + 3, r.line as u64)
 }
 
 // Whether reached configurations, least steps and links are as expected, and what is behind them is kept.
@@ -252,9 +253,9 @@ fn try_reach(table: &[u8], target: &[u8], header: &[u8; 340]) -> Outcome {
                 & same_sets(header, reached, &words, &least, &links)
                 & run_replays(table, &run, steps),
         ),
-        checker::Reaching::Refused { number, file, line } => came(
+        checker::Reaching::Refused(r) => came(
             2,
-            same_refusal(header, 4, number, file, line)
+            same_refusal(header, 4, r)
                 & no_sets(&words, &least, &links)
                 & no_run(&run, &lines),
         ),
@@ -298,9 +299,9 @@ fn try_ask(table: &[u8], question: &[u8], header: &[u8; 340]) -> Outcome {
                 & same_contents(header, &contents)
                 & same_rows(header, &rows),
         ),
-        checker::Asking::Refused { number, file, line } => came(
+        checker::Asking::Refused(r) => came(
             2,
-            same_refusal(header, 12, number, file, line) & no_rows(&rows) & no_contents(&contents),
+            same_refusal(header, 12, r) & no_rows(&rows) & no_contents(&contents),
         ),
     }
 }
@@ -316,9 +317,9 @@ fn try_replay(table: &[u8], list: &[u32], n: usize, header: &[u8; 340]) -> Outco
             0,
             told(header, 16, 0) & told(header, 17, moment as u64),
         ),
-        checker::Replayed::Refused { number, file, line } => came(
+        checker::Replayed::Refused(r) => came(
             2,
-            same_refusal(header, 16, number, file, line),
+            same_refusal(header, 16, r),
         ),
     }
 }

@@ -1,16 +1,12 @@
 // Tries the boundary cases of reading: for each case of the data folder prints the case, and the refusal's number, file and line, or zeros.
+ghost use Rattle.forms.specs.Readable.{Readable};
 use libc::STDOUT_FILENO;
+use refusals::Refusal;
 
 // The files 001.table, 001.target, 001.question, .. of the data folder: a case has a table, and perhaps one of the others.
 const CASES: u32 = 127;
 
-// What a file is refused for; zeros where it is read.
-struct Refusal {
-    number: u32,
-    file: u32,
-    line: u32,
-}
-
+// Zeros, where a file is read.
 fn nothing() -> Refusal {
     Refusal {
         number: 0,
@@ -22,22 +18,14 @@ fn nothing() -> Refusal {
 fn of_reply(reply: reader::Reply) -> Refusal {
     match reply {
         reader::Reply::Accepted => nothing(),
-        reader::Reply::Refused { number, file, line } => Refusal {
-            number: number,
-            file: file,
-            line: line,
-        },
+        reader::Reply::Refused(r) => r,
     }
 }
 
 fn of_question(reply: questions::Reply) -> Refusal {
     match reply {
         questions::Reply::Accepted(_) => nothing(),
-        questions::Reply::Refused { number, line } => Refusal {
-            number: number,
-            file: 2,
-            line: line,
-        },
+        questions::Reply::Refused(r) => r,
     }
 }
 
@@ -55,7 +43,9 @@ fn try_target(form: &[u32], a: u8, b: u8, c: u8) -> Refusal {
 }
 
 // The question of a case, if it has one.
-fn try_question(registers: u32, constants: u32, places: u32, a: u8, b: u8, c: u8) -> Refusal {
+fn try_question(form: &[u32], a: u8, b: u8, c: u8) -> Refusal
+    requires { ⌜ Readable (now form) ⌝ }
+{
     let file = os::open_read(
         &[
             a,
@@ -79,7 +69,10 @@ fn try_question(registers: u32, constants: u32, places: u32, a: u8, b: u8, c: u8
     let n = io::read_full(file, &mut bytes);
     libc::close(file);
     let mut rows = [0u32; 96];
-    of_question(questions::read_question(registers, constants, places, &bytes[..n], &mut rows))
+    let registers = forms::registers(form) as u32;
+    let constants = forms::constants(form) as u32;
+    let locations = forms::locations(form) as u32;
+    of_question(questions::read_question(registers, constants, locations, &bytes[..n], &mut rows))
 }
 
 // The table of a case, and then its target or question.
@@ -99,7 +92,7 @@ fn try_case(a: u8, b: u8, c: u8) -> Refusal {
         if 0 < target.number {
             return target;
         }
-        return try_question(form[1], form[2], form[3], a, b, c);
+        return try_question(&form, a, b, c);
     }
     of_reply(reply)
 }

@@ -50,7 +50,7 @@ enum-told c = search needs
 readable : (c : tie.After-form2) → Readable (c .before .before .before .open-table .last .1 .0)
 readable c =
     let o = c .before .before .before .open-table .ensures in
-    opened-readable _ _ (told 1 _ _ _ _ (o .0) (o .1) (c .before .enum-told .given .1)) .0
+    opened-readable _ _ (told _ _ _ _ (o .0) (o .1) (c .before .enum-told .given .1)) .0
 
 slice-aggregate-try-runs : tie.Need-slice-aggregate-try-runs
 slice-aggregate-try-runs c = sym (readable c .long)

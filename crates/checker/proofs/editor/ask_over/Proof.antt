@@ -7,10 +7,6 @@ use Rattle.checker.proofs.Codes.{ask-code, ask-number}
 use borrow.Author.Needs.{needs}
 use Rattle.checker.proofs.editor.ask_over.Statement.{statement}
 use Rattle.checker.proofs.editor.ask_over.Tie as tie
-use Rattle.checker.proofs.editor.ask_over.Reads as reads
-use Rattle.checker.proofs.editor.ask_over.Lts as lts
-use Rattle.checker.proofs.question.ask.Reads as ask-reads
-
 ask-requires : tie.Need-ask-requires
 ask-requires c κs = search needs
 
@@ -24,33 +20,25 @@ enum-known-reply : tie.Need-enum-known-reply
 enum-known-reply c = search needs
 
 add-result : tie.Need-add-result
-add-result c =
-    let e = c .before .before .before .before .before .before .before .before .before .before .before in
-    omega (arith, ask-number (length (e .args .rows .now)) (e .args .table .now) (e .args .question .now) (e .pre) _ (c .before .before .before .before .before .ask .ensures .0) _ _ _ (c .before .reply .given .1))
+add-result c = let a = c .before .before .before .before .before .before .before .before .before .before .before .before .args in omega (arith, ask-number (length (a .rows .now)) (a .table .now) (a .question .now) (c .before .before .before .before .before .before .before .before .before .before .before .before .pre) _ (c .before .before .before .before .before .before .ask .ensures .0) _ (c .before .before .reply .given .1))
 
 same-length : tie.Need-same-length
 same-length c = search needs
 
 returns : tie.Need-returns
-returns c =
-    let e = c .before .before .before .before .before .before .before .before .before .before in
-    ask-code (length (e .args .rows .now)) (e .args .table .now) (e .args .question .now) (e .pre) _ (c .before .before .before .before .ask .ensures .0) _ (sym (ap askCode (c .enum-told .given .1)))
+returns c = let a = c .before .before .before .before .before .before .before .before .before .before .args in ask-code (length (a .rows .now)) (a .table .now) (a .question .now) (c .before .before .before .before .before .before .before .before .before .before .pre) _ (c .before .before .before .before .ask .ensures .0) _ (sym (ap askCode (c .enum-told .given .1)))
 
 same-length-2 : tie.Need-same-length-2
 same-length-2 c = search needs
 
 returns-2 : tie.Need-returns-2
-returns-2 c =
-    let e = c .before .before .before .before .before .before .before .before .before .before in
-    ask-code (length (e .args .rows .now)) (e .args .table .now) (e .args .question .now) (e .pre) _ (c .before .before .before .before .ask .ensures .0) _ (sym (ap askCode (c .enum-told2 .given .1)))
+returns-2 c = let a = c .before .before .before .before .before .before .before .before .before .before .args in ask-code (length (a .rows .now)) (a .table .now) (a .question .now) (c .before .before .before .before .before .before .before .before .before .before .pre) _ (c .before .before .before .before .ask .ensures .0) _ (sym (ap askCode (c .enum-told2 .given .1)))
 
 same-length-3 : tie.Need-same-length-3
 same-length-3 c = search needs
 
 returns-3 : tie.Need-returns-3
-returns-3 c =
-    let e = c .before .before .before .before .before .before .before .before .before .before .before in
-    ask-code (length (e .args .rows .now)) (e .args .table .now) (e .args .question .now) (e .pre) _ (c .before .before .before .before .before .ask .ensures .0) _ (sym (ap askCode (c .before .reply .given .1)))
+returns-3 c = let a = c .before .before .before .before .before .before .before .before .before .before .before .before .args in ask-code (length (a .rows .now)) (a .table .now) (a .question .now) (c .before .before .before .before .before .before .before .before .before .before .before .before .pre) _ (c .before .before .before .before .before .before .ask .ensures .0) _ (sym (ap askCode (c .before .before .reply .given .1)))
 
 pub ask-over-spec : {M : Type 1} → statement M
 ask-over-spec =

@@ -7,10 +7,6 @@ use Rattle.checker.proofs.Codes.{reach-code, reach-number}
 use borrow.Author.Needs.{needs}
 use Rattle.checker.proofs.editor.reach_over.Statement.{statement}
 use Rattle.checker.proofs.editor.reach_over.Tie as tie
-use Rattle.checker.proofs.editor.reach_over.Reads as reads
-use Rattle.checker.proofs.editor.reach_over.Lts as lts
-use Rattle.checker.proofs.goal.reach.Reads as reach-reads
-
 reach-requires : tie.Need-reach-requires
 reach-requires c κs = search needs
 
@@ -25,8 +21,9 @@ enum-known-reply c = search needs
 
 add-result : tie.Need-add-result
 add-result c =
-    let e = c .before .before .before .before .before .before .before .before .before .before .before .before .before .before .before .before .before .before .before .before .before .before .before .before .before .before in
-    omega (arith, reach-number (length (e .args .words .now)) (length (e .args .least .now)) (length (e .args .links .now)) (length (e .args .run .now)) (length (e .args .lines .now)) (e .args .table .now) (e .args .target .now) (e .pre .0) (e .pre .1) (e .pre .2) (e .pre .3) (e .pre .4) _ (c .before .before .before .before .before .before .before .before .before .before .before .before .before .reach .ensures .0) _ _ _ (c .before .reply .given .1))
+    let a = c .before .before .before .before .before .before .before .before .before .before .before .before .before .before .before .before .before .before .before .before .before .before .before .before .before .before .before .args in
+    let e = c .before .before .before .before .before .before .before .before .before .before .before .before .before .before .before .before .before .before .before .before .before .before .before .before .before .before .before .pre in
+    omega (arith, reach-number (length (a .words .now)) (length (a .least .now)) (length (a .links .now)) (length (a .run .now)) (length (a .lines .now)) (a .table .now) (a .target .now) (e .0) (e .1) (e .2) (e .3) (e .4) _ (c .before .before .before .before .before .before .before .before .before .before .before .before .before .before .reach .ensures .0) _ (c .before .before .reply .given .1))
 
 same-length : tie.Need-same-length
 same-length c = search needs
@@ -45,8 +42,9 @@ same-length-5 c = search needs
 
 returns : tie.Need-returns
 returns c =
-    let e = c .before .before .before .before .before .before .before .before .before .before .before .before .before .before .before .before .before .before .before .before .before .before .before .before .before in
-    reach-code (length (e .args .words .now)) (length (e .args .least .now)) (length (e .args .links .now)) (length (e .args .run .now)) (length (e .args .lines .now)) (e .args .table .now) (e .args .target .now) (e .pre .0) (e .pre .1) (e .pre .2) (e .pre .3) (e .pre .4) _ (c .before .before .before .before .before .before .before .before .before .before .before .before .reach .ensures .0) _ (sym (ap reachCode (c .enum-told .given .1)))
+    let a = c .before .before .before .before .before .before .before .before .before .before .before .before .before .before .before .before .before .before .before .before .before .before .before .before .before .args in
+    let e = c .before .before .before .before .before .before .before .before .before .before .before .before .before .before .before .before .before .before .before .before .before .before .before .before .before .pre in
+    reach-code (length (a .words .now)) (length (a .least .now)) (length (a .links .now)) (length (a .run .now)) (length (a .lines .now)) (a .table .now) (a .target .now) (e .0) (e .1) (e .2) (e .3) (e .4) _ (c .before .before .before .before .before .before .before .before .before .before .before .before .reach .ensures .0) _ (sym (ap reachCode (c .enum-told .given .1)))
 
 same-length-6 : tie.Need-same-length-6
 same-length-6 c = search needs
@@ -65,8 +63,9 @@ same-length-10 c = search needs
 
 returns-2 : tie.Need-returns-2
 returns-2 c =
-    let e = c .before .before .before .before .before .before .before .before .before .before .before .before .before .before .before .before .before .before .before .before .before .before .before .before .before in
-    reach-code (length (e .args .words .now)) (length (e .args .least .now)) (length (e .args .links .now)) (length (e .args .run .now)) (length (e .args .lines .now)) (e .args .table .now) (e .args .target .now) (e .pre .0) (e .pre .1) (e .pre .2) (e .pre .3) (e .pre .4) _ (c .before .before .before .before .before .before .before .before .before .before .before .before .reach .ensures .0) _ (sym (ap reachCode (c .enum-told2 .given .1)))
+    let a = c .before .before .before .before .before .before .before .before .before .before .before .before .before .before .before .before .before .before .before .before .before .before .before .before .before .args in
+    let e = c .before .before .before .before .before .before .before .before .before .before .before .before .before .before .before .before .before .before .before .before .before .before .before .before .before .pre in
+    reach-code (length (a .words .now)) (length (a .least .now)) (length (a .links .now)) (length (a .run .now)) (length (a .lines .now)) (a .table .now) (a .target .now) (e .0) (e .1) (e .2) (e .3) (e .4) _ (c .before .before .before .before .before .before .before .before .before .before .before .before .reach .ensures .0) _ (sym (ap reachCode (c .enum-told2 .given .1)))
 
 same-length-11 : tie.Need-same-length-11
 same-length-11 c = search needs
@@ -85,8 +84,9 @@ same-length-15 c = search needs
 
 returns-3 : tie.Need-returns-3
 returns-3 c =
-    let e = c .before .before .before .before .before .before .before .before .before .before .before .before .before .before .before .before .before .before .before .before .before .before .before .before .before .before in
-    reach-code (length (e .args .words .now)) (length (e .args .least .now)) (length (e .args .links .now)) (length (e .args .run .now)) (length (e .args .lines .now)) (e .args .table .now) (e .args .target .now) (e .pre .0) (e .pre .1) (e .pre .2) (e .pre .3) (e .pre .4) _ (c .before .before .before .before .before .before .before .before .before .before .before .before .before .reach .ensures .0) _ (sym (ap reachCode (c .before .reply .given .1)))
+    let a = c .before .before .before .before .before .before .before .before .before .before .before .before .before .before .before .before .before .before .before .before .before .before .before .before .before .before .before .args in
+    let e = c .before .before .before .before .before .before .before .before .before .before .before .before .before .before .before .before .before .before .before .before .before .before .before .before .before .before .before .pre in
+    reach-code (length (a .words .now)) (length (a .least .now)) (length (a .links .now)) (length (a .run .now)) (length (a .lines .now)) (a .table .now) (a .target .now) (e .0) (e .1) (e .2) (e .3) (e .4) _ (c .before .before .before .before .before .before .before .before .before .before .before .before .before .before .reach .ensures .0) _ (sym (ap reachCode (c .before .before .reply .given .1)))
 
 pub reach-over-spec : {M : Type 1} → statement M
 reach-over-spec =

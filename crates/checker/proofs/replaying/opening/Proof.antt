@@ -1,14 +1,15 @@
 -- `replaying::opening` meets its contract.
 -- Assumes nothing.
-use borrow.Author.Needs.{needs}
-use Rattle.checker.proofs.Opening.{told-opened, told-refused}
-use Rattle.checker.specs.Replaying.{openedOf}
-use Rattle.checker.proofs.Replays.{value-refused}
-use lib.ListN.{replicate}
 use mathlib.Core.Path.{refl, sym, ap}
+use lib.ListN.{replicate}
+use Rattle.forms.specs.TableForm.{formLength}
+use Rattle.opening.specs.Opening.{openTable}
+use Rattle.checker.specs.Replaying.{openedOf}
+use Rattle.checker.proofs.OpenedTable.{told-opened, told-refused}
+use Rattle.checker.proofs.Replays.{value-refused}
+use borrow.Author.Needs.{needs}
 use Rattle.checker.proofs.replaying.opening.Statement.{statement}
 use Rattle.checker.proofs.replaying.opening.Tie as tie
-
 open-table-requires : tie.Need-open-table-requires
 open-table-requires c κs = search needs
 
@@ -19,14 +20,15 @@ enum-known-reply : tie.Need-enum-known-reply
 enum-known-reply c = search needs
 
 returns : tie.Need-returns
-returns c = let q = c .before .before .open-table in sym (ap openedOf (told-opened _ _ _ _ _ _ (q .ensures .0) (q .ensures .1) (q .ensures .2) (c .enum-told .given .1) .outcome))
+returns c =
+    let q = c .before .before .open-table .ensures in
+    sym (ap openedOf (told-opened (c .before .before .before .before .before .before .args .table .now) _ _ _ _ _ (q .0) (q .1) (q .2) (c .enum-told .given .1) .outcome))
 
 returns-2 : tie.Need-returns-2
 returns-2 c =
     let a = c .before .before .before .before .before .before .before .args in
-    let q = c .before .before .before .open-table in
-    let (o, f) = told-refused (a .table .now) _ _ _ _ (q .ensures .0) (c .before .reply .given .1) in
-    value-refused (a .table .now) _ _ _ (replicate 5544 0) o (q .ensures .1) refl
+    let q = c .before .before .before .open-table .ensures in
+    value-refused (a .table .now) _ _ (replicate formLength 0) (told-refused (openTable (a .table .now)) _ _ (q .0) (c .before .reply .given .1)) (q .1) refl
 
 pub opening-spec : {M : Type 1} → statement M
 opening-spec =

@@ -1,26 +1,22 @@
 -- `replaying::replay` meets its contract.
 -- Assumes nothing.
-use borrow.Author.Needs.{needs}
-use Rattle.checker.proofs.Replays.{whole-is, short-refused, table-refused, run-judged}
 use borrow.Author.Tests.{not-true, not-false}
-use Rattle.checker.proofs.Opening.{Opened, told-opened, told-refused}
 use mathlib.Core.Path.{sym, _∙_}
+use Rattle.opening.specs.Opening.{openTable}
+use Rattle.checker.proofs.OpenedTable.{Opened, told-opened, told-refused}
+use Rattle.checker.proofs.Replays.{whole-is, short-refused, table-refused, run-judged}
+use borrow.Author.Needs.{needs}
 use Rattle.checker.proofs.replaying.replay.Statement.{statement}
 use Rattle.checker.proofs.replaying.replay.Tie as tie
-
 -- the table, once it is accepted
 opened : (c : tie.After-enum-told) → Opened (c .before .before .before .before .before .before .before .before .before .args .table .now) (c .before .before .open-table .last .1 .0) (c .before .before .open-table .last .1 .1 .0)
-opened c =
-    let q = c .before .before .open-table in
-    told-opened _ _ _ _ _ _ (q .ensures .0) (q .ensures .1) (q .ensures .2) (c .enum-told .given .1)
+opened c = let q = c .before .before .open-table .ensures in told-opened _ _ _ _ _ _ (q .0) (q .1) (q .2) (c .enum-told .given .1)
 
 whole-requires : tie.Need-whole-requires
 whole-requires c κs = search needs
 
 returns : tie.Need-returns
-returns c =
-    let a = c .before .before .before .before .args in
-    short-refused (a .table .now) (a .run .now) (sym (c .before .whole .ensures) ∙ not-true _ (c .if1 .taken))
+returns c = let a = c .before .before .before .before .args in short-refused (a .table .now) (a .run .now) (sym (c .before .whole .ensures) ∙ not-true _ (c .if1 .taken))
 
 open-table-requires : tie.Need-open-table-requires
 open-table-requires c κs = search needs
@@ -32,9 +28,7 @@ slice-aggregate-replay : tie.Need-slice-aggregate-replay
 slice-aggregate-replay c = sym (opened (c .before) .readable .long)
 
 replay-requires : tie.Need-replay-requires
-replay-requires c κs =
-    let e = c .before .before .before .before .before .before .before .before .before .before in
-    (opened (c .before) .readable, whole-is (e .args .run .now) (sym (c .before .before .before .before .before .before .before .whole .ensures) ∙ not-false _ (c .before .before .before .before .before .before .if1 .left)))
+replay-requires c κs = (opened (c .before) .readable, whole-is (c .before .before .before .before .before .before .before .before .before .before .args .run .now) (sym (c .before .before .before .before .before .before .before .whole .ensures) ∙ not-false _ (c .before .before .before .before .before .before .if1 .left)))
 
 reply-of-requires : tie.Need-reply-of-requires
 reply-of-requires c κs = search needs
@@ -45,15 +39,12 @@ enum-known-reply c = search needs
 returns-2 : tie.Need-returns-2
 returns-2 c =
     let a = c .before .before .before .before .before .before .before .before .before .before .before .before .args in
-    run-judged (a .table .now) (a .run .now) _ _ _
-    (sym (c .before .before .before .before .before .before .before .before .before .whole .ensures) ∙ not-false _ (c .before .before .before .before .before .before .before .before .if1 .left))
-    (opened (c .before .before .before) .outcome) (c .before .replay .ensures) (c .reply-of .ensures)
+    run-judged (a .table .now) (a .run .now) _ _ _ (sym (c .before .before .before .before .before .before .before .before .before .whole .ensures) ∙ not-false _ (c .before .before .before .before .before .before .before .before .if1 .left)) (opened (c .before .before .before) .outcome) (c .before .replay .ensures) (c .reply-of .ensures)
 
 returns-3 : tie.Need-returns-3
 returns-3 c =
     let a = c .before .before .before .before .before .before .before .before .before .before .args in
-    let (o, f) = told-refused (a .table .now) _ _ _ _ (c .before .before .before .open-table .ensures .0) (c .before .reply .given .1) in
-    table-refused (a .table .now) (a .run .now) _ _ _ (sym (c .before .before .before .before .before .before .before .whole .ensures) ∙ not-false _ (c .before .before .before .before .before .before .if1 .left)) o f
+    table-refused (a .table .now) (a .run .now) _ (sym (c .before .before .before .before .before .before .before .whole .ensures) ∙ not-false _ (c .before .before .before .before .before .before .if1 .left)) (told-refused (openTable (a .table .now)) _ _ (c .before .before .before .open-table .ensures .0) (c .before .reply .given .1))
 
 pub replay-spec : {M : Type 1} → statement M
 replay-spec =

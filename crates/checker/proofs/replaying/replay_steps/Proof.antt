@@ -47,7 +47,7 @@ use denote.Triple.Walked.{says, Stays, walkOf, Walks, ends-at, walked, walk-meet
 use Rattle.struct_slices.specs.Lent.{array-in, array-out}
 use Rattle.struct_slices.specs.Walk.{drops, drops-go, asks, answers}
 use Rattle.forms.specs.TableForm.{automatonOf}
-use Rattle.reader.specs.Table.Outcome.{table as accepted}
+use Rattle.refusals.specs.Judged.Judged.{accepted}
 use Rattle.forms.specs.Readable.{Readable}
 use Rattle.opening.specs.Opening.{openTable}
 use Rattle.opening.proofs.Opened.{opened-readable}

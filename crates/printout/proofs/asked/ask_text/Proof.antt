@@ -2,8 +2,8 @@
 use Prim.Native.Nat.{ℕ, _≤_}
 use mathlib.Core.Path.{refl, sym, _∙_, subst}
 use lib.ListN.{length-replicate}
-use Rattle.printout.specs.Answers.{classOf}
-use Rattle.printout.proofs.Bounds.{class-low}
+use Rattle.printout.specs.AnswerNumbers.{classOf}
+use Rattle.printout.proofs.PrintedBounds.{class-low}
 use Rattle.printout.proofs.Whole.{asked-whole}
 use borrow.Author.Needs.{needs}
 use Rattle.printout.proofs.asked.ask_text.Statement.{statement}

@@ -2,8 +2,8 @@
 use Prim.Native.Nat.{ℕ, _≤_}
 use mathlib.Core.Path.{_≡_, refl, sym, _∙_, subst}
 use lib.ListN.{length, replicate, length-replicate}
-use Rattle.printout.specs.Answers.{momentCount}
-use Rattle.printout.proofs.Bounds.{moments-few}
+use Rattle.printout.specs.AnswerNumbers.{momentCount}
+use Rattle.printout.proofs.PrintedBounds.{moments-few}
 use Rattle.printout.proofs.Whole.{found-whole}
 use borrow.Author.Needs.{needs}
 use Rattle.printout.proofs.found.reach_text.Statement.{statement}

@@ -1,0 +1,87 @@
+-- What a call has of a table once `open_table` has told it the outcome.
+-- Assumes nothing.
+use Prim.Native.Nat.{ℕ, zero, suc, _+_, _-_, _<_}
+use mathlib.Core.List.{List}
+use mathlib.Core.Logic.{by-cases}
+use mathlib.Core.Path.{_≡_, refl, sym, ap, _∙_, subst}
+use native.Mathlib.Decide.{decLt}
+use native.Mathlib.Omega.{arith}
+use lib.ListN.{length, getD, drop, replicate, length-replicate}
+use lib.Seq.{getD-append-add, getD-drop}
+use Rattle.automata.specs.Configurations.{classes}
+use Rattle.forms.specs.TableForm.{cell, automatonOf}
+use Rattle.refusals.specs.declared.Refusal.{Refusal}
+use Rattle.refusals.specs.Judged.{Judged}
+use Rattle.refusals.specs.Judged.Judged.{accepted, refused}
+use Rattle.reader.specs.TableReply.{replyOf, formOf}
+use Rattle.reader.specs.declared.Reply.{Reply}
+use Rattle.reader.specs.declared.Reply.the-variants.{Accepted, Refused}
+use Rattle.forms.specs.Readable.{Readable}
+use Rattle.catalogue.specs.Serving.{labelRows}
+use Rattle.catalogue.proofs.LabelRows.{label-rows-small, label-rows-length}
+use Rattle.lists.proofs.Arrays.{written-entry, written-length}
+use Rattle.opening.specs.Opening.{openTable, labelsOf, classLabels}
+use Rattle.opening.proofs.Opened.{opened-readable}
+use Rattle.opening.proofs.Labels.{counts-few, labels-held, classes-most}
+use Rattle.conditions.specs.Values.{ClassLabels}
+use Rattle.forms.specs.ClassLabels.{Lent}
+
+-- the table of these bytes has the form t, and the labels of its classes are cat
+pub record Opened (s t cat : List ℕ) : Type 0 where
+  pub outcome : openTable s ≡ accepted t
+  pub readable : Readable t
+  pub lent : Lent t cat (length (classes (automatonOf t)))
+  pub held : ClassLabels (automatonOf t) cat
+  pub long : length cat ≡ 3370
+
+zeros : (n i : ℕ) → getD {A = ℕ} (replicate n 0) i 0 ≡ 0
+zeros zero i = refl
+zeros (suc n) zero = refl
+zeros (suc n) (suc i) = zeros n i
+
+labels-small : (t : List ℕ) → Readable t → (i : ℕ) → getD (classLabels t) i 0 < 8
+labels-small t r i =
+    let (few, low) = counts-few t r in
+    let rows : List ℕ = labelRows (cell t 0 1) (cell t 0 2) in
+    by-cases (decLt i (length rows))
+    (λ h. subst (λ n. n < 8) (sym (written-entry rows (replicate 3370 0) i h)) (label-rows-small (cell t 0 1) (cell t 0 2) few low i))
+    (λ h.
+    let e : i ≡ length rows + (i - length rows) = omega arith in
+    let z : getD (classLabels t) i 0 ≡ 0 =
+    ap (λ j. getD (classLabels t) j 0) e ∙ getD-append-add rows (drop (length rows) (replicate 3370 0)) (i - length rows) 0
+    ∙ getD-drop (length rows) (replicate 3370 0) (i - length rows) 0 ∙ zeros 3370 (length rows + (i - length rows)) in
+    omega arith)
+
+labels-long : (t : List ℕ) → Readable t → length (classLabels t) ≡ 3370
+labels-long t r =
+    let (few, low) = counts-few t r in
+    let q : ℕ = cell t 0 1 in
+    let k : ℕ = cell t 0 2 in
+    let z : length (replicate {A = ℕ} 3370 0) ≡ 3370 = length-replicate {0} {A = ℕ} 3370 0 in
+    written-length (labelRows q k) (replicate 3370 0) (omega (arith, label-rows-length q k few, classes-most q k few low, z)) ∙ z
+
+pub told-opened : (s t v cat w : List ℕ) (q : Reply) → q ≡ replyOf (openTable s) → t ≡ formOf (openTable s) v → cat ≡ labelsOf (openTable s) w → q ≡ Accepted → Opened s t cat
+told-opened s t v cat w q e f l a = go (openTable s) refl (sym e ∙ a) f l
+  where
+    go : (o : Judged (List ℕ)) → openTable s ≡ o → replyOf o ≡ Accepted → t ≡ formOf o v → cat ≡ labelsOf o w → Opened s t cat
+    go (accepted u) d a f l =
+        let outcome : openTable s ≡ accepted t = d ∙ ap accepted (sym f) in
+        let readable : Readable t = opened-readable s t outcome .0 in
+        let same : cat ≡ classLabels t = l ∙ ap classLabels (sym f) in
+        let held : ClassLabels (automatonOf t) cat = labels-held t (replicate 3370 0) cat readable (length-replicate {0} {A = ℕ} 3370 0) same in
+        record {
+          outcome = outcome;
+          readable = readable;
+          lent = record { readable = readable; labels = record { long = held .long; each = held .each; small = λ i. subst (λ c. getD c i 0 < 8) (sym same) (labels-small t readable i) }; count = refl };
+          held = held;
+          long = ap length same ∙ labels-long t readable;
+        }
+    go (refused r) d a f l = let z : _≡_ {A = ℕ} 0 1 = cc in absurd (omega arith)
+
+-- a caller that is told a refusal has that of what was read
+pub told-refused : (o : Judged (List ℕ)) (q : Reply) (r : Refusal) → q ≡ replyOf o → q ≡ Refused r → o ≡ refused r
+told-refused o q r e a = go o (sym e ∙ a)
+  where
+    go : (o : Judged (List ℕ)) → replyOf o ≡ Refused r → o ≡ refused r
+    go (accepted u) b = let z : _≡_ {A = ℕ} 0 1 = cc in absurd (omega arith)
+    go (refused m) b = let p : m ≡ r = cc in ap refused p

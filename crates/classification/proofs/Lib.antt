@@ -1,0 +1,3 @@
+-- The lemmas of the calls on contents, classes and matrices.
+pub mod Passed
+pub mod ClassReplies

@@ -1,0 +1,3 @@
+-- What the contracts of the calls on contents, classes and matrices cite.
+pub mod ClassTests
+pub mod ClassCalls
