@@ -1,7 +1,7 @@
 -- The replies of the calls on contents, classes and matrices, from what their tests and the catalogue's functions say.
 -- Assumes nothing.
 use Prim.Native.Nat.{ℕ, _*_, _≤_, _<_}
-use mathlib.Core.Bool.{Bool, true, false, _&&_}
+use mathlib.Core.Bool.{Bool, _&&_}
 use mathlib.Core.List.{List, [], _∷_, _++_}
 use mathlib.Core.Option.{Option, none, some}
 use mathlib.Core.Path.{_≡_, refl, sym, ap, ap₂, _∙_, subst}
@@ -20,8 +20,8 @@ use Rattle.catalogue.specs.Matrices.{found}
 use Rattle.catalogue.specs.declared.Found.the-variants.{Class, NoClass}
 use Rattle.catalogue.proofs.Buffers.{padded-front}
 use Rattle.catalogue.proofs.Complete.{lists-legal}
-use Rattle.checker.specs.declared.Number.the-variants.{Refused as noNumber, Is}
-use Rattle.checker.specs.declared.Written.the-variants.{Refused as notWritten, Done}
+use Rattle.checker.specs.declared.Number.the-variants.{Is}
+use Rattle.checker.specs.declared.Written.the-variants.{Done}
 use Rattle.checker.specs.Refusals.{firstOf, buffer, size, order, range, noClass, doneUnless}
 use Rattle.checker.specs.Counts.{classOfReply, listOf, contentsOfRefusal, contentsOfOut, matrixOfRefusal, matrixOfOut, listFound, contentsOfMatrixRefusal, contentsOfMatrixOut, matrixOfClassRefusal, matrixOfClassOut, classOfMatrixReply}
 use Rattle.checker.proofs.Tests.{both}
@@ -41,18 +41,18 @@ last-one ns d e h = first-more ns d e ∙ ap (λ x. firstOf (x ∷ [])) h
 
 -- Class lists and contents in arrays
 
-module _ (r c k : ℕ) (labels : List ℕ) (h : k < length (lists r c)) (e : labels ≡ padded (listOf r c k)) where
+module _ (r c k : ℕ) (few : r ≤ 5) (labels : List ℕ) (h : k < length (lists r c)) (e : labels ≡ padded 5 (listOf r c k)) where
   pub list-front : take r labels ≡ listOf r c k
-  list-front = ap (take r) e ∙ padded-front (listOf r c k) r (lists-legal r c k h .1)
+  list-front = ap (take r) e ∙ padded-front (listOf r c k) r (lists-legal r c k h .1) few
 
   pub list-legal : Legal c (take r labels)
   list-legal = subst (Legal c) (sym list-front) (lists-legal r c k h .0)
 
-module _ (r : ℕ) (cs p labels : List ℕ) (k : ℕ) (h : k < length (lists r (length cs))) (e : labels ≡ padded (listOf r (length cs) k)) (f : take (length cs) p ≡ cs) where
-  pub given-back : (list : List ℕ) → list ≡ padded (contents (take (length cs) p) (take r labels)) → take r list ≡ contents cs (listOf r (length cs) k)
+module _ (r : ℕ) (few : r ≤ 5) (cs p labels : List ℕ) (k : ℕ) (h : k < length (lists r (length cs))) (e : labels ≡ padded 5 (listOf r (length cs) k)) (f : take (length cs) p ≡ cs) where
+  pub given-back : (list : List ℕ) → list ≡ padded 5 (contents (take (length cs) p) (take r labels)) → take r list ≡ contents cs (listOf r (length cs) k)
   given-back list g =
-      let same : list ≡ padded (contents cs (listOf r (length cs) k)) = g ∙ ap₂ (λ a b. padded (contents a b)) f (list-front r (length cs) k labels h e) in
-      ap (take r) same ∙ padded-front (contents cs (listOf r (length cs) k)) r (contents-length cs (listOf r (length cs) k) ∙ lists-legal r (length cs) k h .1)
+      let same : list ≡ padded 5 (contents cs (listOf r (length cs) k)) = g ∙ ap₂ (λ a b. padded 5 (contents a b)) f (list-front r (length cs) k few labels h e) in
+      ap (take r) same ∙ padded-front (contents cs (listOf r (length cs) k)) r (contents-length cs (listOf r (length cs) k) ∙ lists-legal r (length cs) k h .1) few
 
 -- The class of contents
 
@@ -60,11 +60,11 @@ module _ (r : ℕ) (cs v : List ℕ) where
   pub class-of-taken : (n : ℕ) → n ≡ firstOf (tested (eqb (length v) r) r cs) → n ≡ 0 → (length cs ≤ 2) × (length v ≡ r) × (r ≤ 5)
   class-of-taken n e z = let (b, q, l) = lists-pass (eqb (length v) r) r cs (sym e ∙ z) in (l, eqb-true (length v) r b, q)
 
-  pub class-of-is : (n x : ℕ) (p f : List ℕ) → n ≡ firstOf (tested (eqb (length v) r) r cs) → n ≡ 0 → take (length cs) p ≡ cs → f ≡ padded v
+  pub class-of-is : (n x : ℕ) (p f : List ℕ) → n ≡ firstOf (tested (eqb (length v) r) r cs) → n ≡ 0 → take (length cs) p ≡ cs → f ≡ padded 5 v
       → x ≡ index (lists (length v) (length cs)) (labels (take (length cs) p) (take (length v) f)) → Is x ≡ classOfReply r cs v
   class-of-is n x p f e z cp fp d =
       let (l, w, q) = class-of-taken n e z in
-      let front : take (length v) f ≡ v = ap (take (length v)) fp ∙ padded-front v (length v) refl in
+      let front : take (length v) f ≡ v = ap (take (length v)) fp ∙ padded-front v (length v) refl (omega arith) in
       number-is (firstOf (tested (eqb (length v) r) r cs)) x (index (lists r (length cs)) (labels cs v)) (sym e ∙ z)
       (d ∙ ap₂ (λ a b. index (lists (length v) (length cs)) (labels a b)) cp front ∙ ap (λ m. index (lists m (length cs)) (labels cs v)) w)
 
@@ -112,10 +112,10 @@ module _ (r : ℕ) (cs v out : List ℕ) (q : ℕ) (sq : q ≡ r * r) where
       let room : r * r ≤ length out = subst (λ m. m ≤ length out) sq (leb-true q (length out) y) in
       (l, subst (λ m. m ≤ 5) (sym w) few, subst (λ m. m * m ≤ length out) (sym w) room)
 
-  pub matrix-done : (n : ℕ) (p f exit : List ℕ) → n ≡ firstOf (tested (eqb (length v) r && leb q (length out)) r cs) → n ≡ 0 → take (length cs) p ≡ cs → f ≡ padded v
+  pub matrix-done : (n : ℕ) (p f exit : List ℕ) → n ≡ firstOf (tested (eqb (length v) r && leb q (length out)) r cs) → n ≡ 0 → take (length cs) p ≡ cs → f ≡ padded 5 v
       → exit ≡ written (matrix (take (length cs) p) (take (length v) f)) out → (Done ≡ doneUnless (matrixOfRefusal r cs v out)) × (exit ≡ matrixOfOut r cs v out)
   matrix-done n p f exit e z cp fp w =
-      let front : take (length v) f ≡ v = ap (take (length v)) fp ∙ padded-front v (length v) refl in
+      let front : take (length v) f ≡ v = ap (take (length v)) fp ∙ padded-front v (length v) refl (matrix-taken n e z .1) in
       write-done (matrixOfRefusal r cs v out) (matrix cs v) out exit (sym (made n e) ∙ z) (w ∙ ap₂ (λ a b. written (matrix a b) out) cp front)
 
 -- The matrix of a class
@@ -139,11 +139,11 @@ module _ (r c k : ℕ) (out : List ℕ) (q : ℕ) (sq : q ≡ r * r) where
   pub class-matrix-taken : (n : ℕ) → n ≡ firstOf (C q) → n ≡ 0 → (r ≤ 5) × (c ≤ 2) × (r * r ≤ length out)
   class-matrix-taken n e z = let (b, x, y) = counts-pass (leb (r * r) (length out)) r c (sym (same n e) ∙ z) in (x, y, leb-true (r * r) (length out) b)
 
-  pub class-matrix-done : (n : ℕ) (labels exit : List ℕ) → n ≡ firstOf (C q) → n ≡ 0 → k < length (lists r c) → labels ≡ padded (listOf r c k) → exit ≡ written (classMatrix c (take r labels)) out
+  pub class-matrix-done : (n : ℕ) (labels exit : List ℕ) → n ≡ firstOf (C q) → n ≡ 0 → k < length (lists r c) → labels ≡ padded 5 (listOf r c k) → exit ≡ written (classMatrix c (take r labels)) out
       → (Done ≡ doneUnless (matrixOfClassRefusal r c k out)) × (exit ≡ matrixOfClassOut r c k out)
   class-matrix-done n labels exit e z h l w =
       write-done (matrixOfClassRefusal r c k out) (classMatrix c (listOf r c k)) out exit
-      (last-one (C (r * r)) (range k (length (lists r c))) (sym (same n e) ∙ z) (range-fits k (length (lists r c)) h)) (w ∙ ap (λ x. written (classMatrix c x) out) (list-front r c k labels h l))
+      (last-one (C (r * r)) (range k (length (lists r c))) (sym (same n e) ∙ z) (range-fits k (length (lists r c)) h)) (w ∙ ap (λ x. written (classMatrix c x) out) (list-front r c k (class-matrix-taken n e z .0) labels h l))
 
 -- The class of a matrix
 

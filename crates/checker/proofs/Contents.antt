@@ -1,21 +1,19 @@
 -- The contents given back for a class of a table, from the labels that its form and its class list hold.
 -- Assumes nothing.
-use Prim.Native.Nat.{ℕ, zero, suc, _+_, _*_, _≤_, _<_}
-use mathlib.Core.List.{List, [], _∷_, map, List·Memᴰ}
-use mathlib.Core.Path.{_≡_, refl, sym, ap, _∙_, subst⁻¹}
+use Prim.Native.Nat.{ℕ, _+_, _*_, _≤_, _<_}
+use mathlib.Core.List.{List, [], _∷_, List·Memᴰ}
+use mathlib.Core.Path.{_≡_, sym, ap, _∙_, subst⁻¹}
 use native.Mathlib.Omega.{arith}
 use lib.ListN.{length, getD, take}
-use Rattle.graphs.specs.Lists.{upFrom}
 use Rattle.graphs.proofs.Lists.{getD-mem}
 use Rattle.classes.specs.Classes.{Legal, contents}
 use Rattle.classes.proofs.Catalogue.{lists-mem}
 use Rattle.automata.specs.WellFormed.{constantCount}
 use Rattle.automata.specs.Configurations.{classes}
 use Rattle.forms.specs.TableForm.{cell, automatonOf}
-use Rattle.forms.specs.Readable.{Readable}
-use Rattle.forms.proofs.Forms.{form-limits, constant-count}
+use Rattle.forms.proofs.Forms.{constant-count}
 use Rattle.forms.specs.ClassLabels.{Lent}
-use Rattle.concretization.proofs.SmallestMoves.{constants-are}
+use Rattle.forms.proofs.Accessors.{values-are}
 use Rattle.lists.specs.Arrays.{padded}
 use Rattle.opening.proofs.Labels.{counts-few}
 use Rattle.checker.specs.Asking.{classContents}
@@ -41,7 +39,7 @@ module _ (t cat : List ℕ) (n k : ℕ) (l : Lent t cat n) (h : k < n) where
   few-constants = counts-few t (l .readable) .1
 
   constants-taken : take (cell t 0 2) (cell t 1 1 ∷ cell t 2 1 ∷ []) ≡ automatonOf t .constants
-  constants-taken = constants-are t few-constants
+  constants-taken = ap (λ m. take m (cell t 1 1 ∷ cell t 2 1 ∷ [])) (sym (constant-count t)) ∙ values-are t (l .readable)
 
   listed : List·Memᴰ (getD (classes (automatonOf t)) k []) (classes (automatonOf t))
   listed = getD-mem (classes (automatonOf t)) k [] (omega (arith, l .count))
@@ -67,5 +65,5 @@ module _ (t cat : List ℕ) (n k : ℕ) (l : Lent t cat n) (h : k < n) where
       (lists-mem (automatonOf t .registers) (constantCount (automatonOf t)) (getD (classes (automatonOf t)) k []) listed .0))
 
   -- so the contents that the catalogue gives back are those of the class
-  pub given : padded (contents (take (cell t 0 2) (cell t 1 1 ∷ cell t 2 1 ∷ [])) (take (cell t 0 1) (getD cat (5 * k) 0 ∷ label 1 ∷ label 2 ∷ label 3 ∷ label 4 ∷ []))) ≡ padded (classContents (automatonOf t) k)
-  given = λ i. padded (contents (constants-taken i) (labels-taken i))
+  pub given : padded 5 (contents (take (cell t 0 2) (cell t 1 1 ∷ cell t 2 1 ∷ [])) (take (cell t 0 1) (getD cat (5 * k) 0 ∷ label 1 ∷ label 2 ∷ label 3 ∷ label 4 ∷ []))) ≡ padded 5 (classContents (automatonOf t) k)
+  given = λ i. padded 5 (contents (constants-taken i) (labels-taken i))

@@ -30,7 +30,7 @@ askedReply a (some k) = No k (a .registers)
 -- the contents given back for the class of a no, in five slots; else what they were
 abbrev pub askedContents : Automaton → Option ℕ → List ℕ → List ℕ
 askedContents a none v = v
-askedContents a (some k) v = padded (classContents a k)
+askedContents a (some k) v = padded 5 (classContents a k)
 
 -- the reply
 unfoldable pub askReply : Files → Asking

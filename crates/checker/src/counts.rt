@@ -89,7 +89,7 @@ fn pair(constants: &[u32]) -> [u32; 2]
 // The contents, five at most, in an array; zeros after them.
 fn five(contents: &[u32]) -> [u32; 5]
     requires { ⌜ length (now contents) ≤ 5 ⌝ }
-    ensures { λ r. ⌜ r ≡ padded (now (contents .entry)) ⌝ }
+    ensures { λ r. ⌜ r ≡ padded 5 (now (contents .entry)) ⌝ }
 {
     let mut list = [0u32; 5];
     let mut i = 0;
@@ -115,7 +115,7 @@ fn put(list: [u32; 5], n: usize, out: &mut [u32])
 // The list of a class; zeros after it.
 fn class_list(r: usize, c: usize, class: usize) -> [u8; 5]
     requires { ⌜ (r ≤ 5) × (c ≤ 2) × (class < length (lists r c)) ⌝ }
-    ensures { λ q. ⌜ q ≡ padded (listOf r c class) ⌝ }
+    ensures { λ q. ⌜ q ≡ padded 5 (listOf r c class) ⌝ }
 {
     let table = catalogue::table();
     let mut rows = [0u16; 674];

@@ -18,7 +18,7 @@ pub(crate) fn wide(n: u32) -> usize
 // The contents given back for class k of a table; zeros after them.
 pub(crate) fn class_contents(form: &[u32], cat: &[u8], n: usize, k: usize) -> [u32; 5]
     requires { ⌜ Lent (now form) (now cat) n × (k < n) ⌝ }
-    ensures { λ r. ⌜ r ≡ padded (classContents (automatonOf (now (form .entry))) k) ⌝ }
+    ensures { λ r. ⌜ r ≡ padded 5 (classContents (automatonOf (now (form .entry))) k) ⌝ }
 {
     let r = form[1] as usize;
     let c = form[2] as usize;

@@ -56,7 +56,7 @@ contents-of-requires c κs =
     let cs = a .constants .now in
     let (q, l, w) = contents-taken r cs (a .class) (a .out .now) _ (c .before .before .before .before .before .list-refusal .ensures) (omega (arith, c .before .before .before .before .if1 .left)) in
     let h : a .class < length (lists r (length cs)) = omega (arith, c .before .before .if2 .left, c .before .before .before .class-count .ensures) in
-    (l, q, list-legal r (length cs) (a .class) _ h (c .before .class-list .ensures))
+    (l, q, list-legal r (length cs) (a .class) q _ h (c .before .class-list .ensures))
 
 put-requires : tie.Need-put-requires
 put-requires c κs =
@@ -75,7 +75,7 @@ returns-3 c =
     let r = a .registers in
     let cs = a .constants .now in
     let h : a .class < length (lists r (length cs)) = omega (arith, c .before .before .before .before .before .before .before .if2 .left, c .before .before .before .before .before .before .before .before .class-count .ensures) in
-    contents-done r cs (a .class) (a .out .now) _ _ _ (c .before .before .before .before .before .before .before .before .before .before .list-refusal .ensures) (omega (arith, c .before .before .before .before .before .before .before .before .before .if1 .left)) h (given-back r cs _ _ (a .class) h (c .before .before .before .before .before .before .class-list .ensures) (c .before .before .before .before .before .pair .ensures) _ (c .before .before .before .before .contents-of .ensures)) (c .before .before .put .ensures)
+    contents-done r cs (a .class) (a .out .now) _ _ _ (c .before .before .before .before .before .before .before .before .before .before .list-refusal .ensures) (omega (arith, c .before .before .before .before .before .before .before .before .before .if1 .left)) h (given-back r (contents-taken r cs (a .class) (a .out .now) _ (c .before .before .before .before .before .before .before .before .before .before .list-refusal .ensures) (omega (arith, c .before .before .before .before .before .before .before .before .before .if1 .left)) .0) cs _ _ (a .class) h (c .before .before .before .before .before .before .class-list .ensures) (c .before .before .before .before .before .pair .ensures) _ (c .before .before .before .before .contents-of .ensures)) (c .before .before .put .ensures)
 
 pub contents-of-spec : {M : Type 1} → statement M
 contents-of-spec =

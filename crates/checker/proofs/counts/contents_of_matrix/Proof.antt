@@ -54,7 +54,7 @@ contents-of-requires c κs =
     let cs = a .constants .now in
     let (q, l, m, w) = back-taken r cs (a .matrix .now) (a .out .now) _ (c .before .before .before .before .before .before .before .before .square .ensures) _ (c .before .before .before .before .before .before .before .list-refusal .ensures) (omega (arith, c .before .before .before .before .before .before .if1 .left)) in
     let h = class-listed r (length cs) (a .matrix .now) _ (sym (c .before .before .before .found .given .1) ∙ c .before .before .before .before .before .class-of-matrix .ensures) .0 in
-    (l, q, list-legal r (length cs) _ _ h (c .before .class-list .ensures))
+    (l, q, list-legal r (length cs) _ q _ h (c .before .class-list .ensures))
 
 put-requires : tie.Need-put-requires
 put-requires c κs =
@@ -77,7 +77,7 @@ returns-2 c =
     let cs = a .constants .now in
     let f = sym (c .before .before .before .before .before .before .before .before .found .given .1) ∙ c .before .before .before .before .before .before .before .before .before .before .class-of-matrix .ensures in
     let h = class-listed r (length cs) (a .matrix .now) _ f .0 in
-    back-done r cs (a .matrix .now) (a .out .now) _ (c .before .before .before .before .before .before .before .before .before .before .before .before .before .square .ensures) _ _ _ _ (c .before .before .before .before .before .before .before .before .before .before .before .before .list-refusal .ensures) (omega (arith, c .before .before .before .before .before .before .before .before .before .before .before .if1 .left)) f (given-back r cs _ _ _ h (c .before .before .before .before .before .before .class-list .ensures) (c .before .before .before .before .before .pair .ensures) _ (c .before .before .before .before .contents-of .ensures)) (c .before .before .put .ensures)
+    back-done r cs (a .matrix .now) (a .out .now) _ (c .before .before .before .before .before .before .before .before .before .before .before .before .before .square .ensures) _ _ _ _ (c .before .before .before .before .before .before .before .before .before .before .before .before .list-refusal .ensures) (omega (arith, c .before .before .before .before .before .before .before .before .before .before .before .if1 .left)) f (given-back r (back-taken r cs (a .matrix .now) (a .out .now) _ (c .before .before .before .before .before .before .before .before .before .before .before .before .before .square .ensures) _ (c .before .before .before .before .before .before .before .before .before .before .before .before .list-refusal .ensures) (omega (arith, c .before .before .before .before .before .before .before .before .before .before .before .if1 .left)) .0) cs _ _ _ h (c .before .before .before .before .before .before .class-list .ensures) (c .before .before .before .before .before .pair .ensures) _ (c .before .before .before .before .contents-of .ensures)) (c .before .before .put .ensures)
 
 returns-3 : tie.Need-returns-3
 returns-3 c =

@@ -1,9 +1,9 @@
 -- `checker::answer_over` meets its contract. Assumes nothing.
-use mathlib.Core.Path.{sym, _∙_}
+use mathlib.Core.Path.{_∙_}
 use Rattle.automata.specs.Questions.{question}
 use Rattle.forms.specs.TableForm.{automatonOf}
 use Rattle.forms.specs.QuestionForm.{rowsOf}
-use Rattle.concretization.proofs.SmallestMoves.{registers-are}
+use Rattle.forms.proofs.Accessors.{registers-is}
 use native.Mathlib.Omega.{arith}
 use Rattle.checker.proofs.Asked.{ready, class-labels, lent-as, class-below, yes-reply, yes-contents, no-reply, no-contents}
 use borrow.Author.Needs.{needs}
@@ -79,7 +79,7 @@ returns-2 c =
     let f = question (rowsOf (e .args .question .now) (e .args .count)) in
     let q = c .before .before .before .before .before .before .before .before .ask .ensures in
     let d = c .before .before .before .before .answer .given .1 in
-    (no-reply a f _ (q .0) _ _ d (c .wide .ensures ∙ sym (registers-are (e .args .form .now))), q .1, no-contents a f _ (q .0) _ d _ _ (c .before .before .class-contents .ensures))
+    (no-reply a f _ (q .0) _ _ d (c .wide .ensures ∙ registers-is (e .args .form .now) (e .pre .1 .readable) .0), q .1, no-contents a f _ (q .0) _ d _ _ (c .before .before .class-contents .ensures))
 
 pub answer-over-spec : {M : Type 1} → statement M
 answer-over-spec =
