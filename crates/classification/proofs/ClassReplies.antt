@@ -42,18 +42,18 @@ most-classes r c h k =
 
 -- Class lists and contents in arrays
 
-module _ (r c k : ℕ) (labels : List ℕ) (h : k < length (lists r c)) (e : labels ≡ padded 5 (listOf r c k)) where
+module _ (r c k : ℕ) (few : r ≤ 5) (labels : List ℕ) (h : k < length (lists r c)) (e : labels ≡ padded 5 (listOf r c k)) where
   pub list-front : take r labels ≡ listOf r c k
-  list-front = ap (take r) e ∙ padded-front (listOf r c k) r (lists-legal r c k h .1)
+  list-front = ap (take r) e ∙ padded-front (listOf r c k) r (lists-legal r c k h .1) few
 
   pub list-legal : Legal c (take r labels)
   list-legal = subst (Legal c) (sym list-front) (lists-legal r c k h .0)
 
-module _ (r : ℕ) (cs p labels : List ℕ) (k : ℕ) (h : k < length (lists r (length cs))) (e : labels ≡ padded 5 (listOf r (length cs) k)) (f : take (length cs) p ≡ cs) where
+module _ (r : ℕ) (few : r ≤ 5) (cs p labels : List ℕ) (k : ℕ) (h : k < length (lists r (length cs))) (e : labels ≡ padded 5 (listOf r (length cs) k)) (f : take (length cs) p ≡ cs) where
   pub given-back : (list : List ℕ) → list ≡ padded 5 (contents (take (length cs) p) (take r labels)) → take r list ≡ contents cs (listOf r (length cs) k)
   given-back list g =
-      let same : list ≡ padded 5 (contents cs (listOf r (length cs) k)) = g ∙ ap₂ (λ a b. padded 5 (contents a b)) f (list-front r (length cs) k labels h e) in
-      ap (take r) same ∙ padded-front (contents cs (listOf r (length cs) k)) r (contents-length cs (listOf r (length cs) k) ∙ lists-legal r (length cs) k h .1)
+      let same : list ≡ padded 5 (contents cs (listOf r (length cs) k)) = g ∙ ap₂ (λ a b. padded 5 (contents a b)) f (list-front r (length cs) k few labels h e) in
+      ap (take r) same ∙ padded-front (contents cs (listOf r (length cs) k)) r (contents-length cs (listOf r (length cs) k) ∙ lists-legal r (length cs) k h .1) few
 
 -- The class of contents
 
@@ -69,7 +69,7 @@ module _ (r : ℕ) (cs v : List ℕ) (q : Written) (e : q ≡ doneOf (testLists 
         let w : length v ≡ r = eqb-true (length v) r b in
         (l, subst (λ m. m ≤ 5) (sym w) few, w)
 
-    pub class-is : (x : ℕ) (p f : List ℕ) → take (length cs) p ≡ cs → f ≡ padded v
+    pub class-is : (x : ℕ) (p f : List ℕ) → take (length cs) p ≡ cs → f ≡ padded 5 v
         → x ≡ index (lists (length v) (length cs)) (labels (take (length cs) p) (take (length v) f)) → Is x ≡ numberOf (classFor r cs v)
     class-is x p f cp fp g =
         let front : take (length v) f ≡ v = ap (take (length v)) fp ∙ padded-front v (length v) refl in
@@ -127,7 +127,7 @@ module _ (r : ℕ) (cs v out : List ℕ) (s : ℕ) (sq : s ≡ r * r) (q : Writt
         let w : length v ≡ r = eqb-true (length v) r x in
         (l, subst (λ m. m ≤ 5) (sym w) few, subst (λ m. m * m ≤ length out) (sym w) (leb-true (r * r) (length out) y))
 
-    pub matrix-done : (p f exit : List ℕ) → take (length cs) p ≡ cs → f ≡ padded v → exit ≡ written (matrix (take (length cs) p) (take (length v) f)) out
+    pub matrix-done : (p f exit : List ℕ) → take (length cs) p ≡ cs → f ≡ padded 5 v → exit ≡ written (matrix (take (length cs) p) (take (length v) f)) out
         → (Done ≡ doneOf (matrixFor r cs v out)) × (exit ≡ writtenOf (matrixFor r cs v out) out)
     matrix-done p f exit cp fp w =
         let front : take (length v) f ≡ v = ap (take (length v)) fp ∙ padded-front v (length v) refl in

@@ -32,6 +32,21 @@ seek-at t = and 1 seek-kinds.ps (is 1 seek-kinds.ps μ-seek t) seek.Pre
 abbrev seek-below : ℕ → In 1 seek-kinds.ps
 seek-below t = and 1 seek-kinds.ps (falls 1 seek-kinds.ps _<_ μ-seek t) seek.Pre
 
+-- what the calls ask and give
+abbrev claims : ℕ → seek-lts.Claims
+claims t = (
+  judge-reads.Asked,
+  judge-reads.Learnt,
+  smallest-other-reads.Asked,
+  smallest-other-reads.Learnt,
+  worth-trying-reads.Asked,
+  worth-trying-reads.Learnt,
+  note-reads.Asked,
+  note-reads.Learnt,
+  seek-below t,
+  seek.Post,
+)
+
 abbrev seek-Inv-loop : seek-lts.InvT-loop
 seek-Inv-loop arc base wanted pool depth seen vals f i₀ i =
     (i ≤ length pool)
@@ -41,206 +56,52 @@ seek-Inv-loop arc base wanted pool depth seen vals f i₀ i =
 abbrev seek-μ-loop : seek-lts.MeasureT-loop
 seek-μ-loop arc base wanted pool depth seen vals f i₀ i = length pool - i
 
-seek-cast-if1 : (t : ℕ) → seek-lts.Need-cast-if1 (
-  judge-reads.Asked,
-  judge-reads.Learnt,
-  smallest-other-reads.Asked,
-  smallest-other-reads.Learnt,
-  worth-trying-reads.Asked,
-  worth-trying-reads.Learnt,
-  note-reads.Asked,
-  note-reads.Learnt,
-  seek-below t,
-  seek.Post,
-) (seek-at t) seek.Post seek-Inv-loop seek-μ-loop
+seek-cast-if1 : (t : ℕ) → seek-lts.Need-cast-if1 (claims t) (seek-at t) seek.Post seek-Inv-loop seek-μ-loop
 seek-cast-if1 t c = let e = c .before .before in omega (arith, e .pre .1 .0 .few)
 
-seek-judge-requires : (t : ℕ) → seek-lts.Need-judge-requires (
-  judge-reads.Asked,
-  judge-reads.Learnt,
-  smallest-other-reads.Asked,
-  smallest-other-reads.Learnt,
-  worth-trying-reads.Asked,
-  worth-trying-reads.Learnt,
-  note-reads.Asked,
-  note-reads.Learnt,
-  seek-below t,
-  seek.Post,
-) (seek-at t) seek.Post seek-Inv-loop seek-μ-loop
+seek-judge-requires : (t : ℕ) → seek-lts.Need-judge-requires (claims t) (seek-at t) seek.Post seek-Inv-loop seek-μ-loop
 seek-judge-requires t c κs = let e = c .before .before .before in (e .pre .1 .0, e .pre .1 .1)
 
-seek-returns : (t : ℕ) → seek-lts.Need-returns (
-  judge-reads.Asked,
-  judge-reads.Learnt,
-  smallest-other-reads.Asked,
-  smallest-other-reads.Learnt,
-  worth-trying-reads.Asked,
-  worth-trying-reads.Learnt,
-  note-reads.Asked,
-  note-reads.Learnt,
-  seek-below t,
-  seek.Post,
-) (seek-at t) seek.Post seek-Inv-loop seek-μ-loop
+seek-returns : (t : ℕ) → seek-lts.Need-returns (claims t) (seek-at t) seek.Post seek-Inv-loop seek-μ-loop
 seek-returns t c =
     let e = c .before .before .before .before in
     let a = e .args in
     c .judge .ensures ∙ ap (λ l. foundOf (first (suits (a .arc) (known (a .base)) (a .wanted)) l)) (tries-last (a .pool .now) (a .arc .params) (a .depth) (7 + a .depth) (known (a .seen)) (a .vals) (c .before .if1 .taken))
 
-seek-smallest-other-requires : (t : ℕ) → seek-lts.Need-smallest-other-requires (
-  judge-reads.Asked,
-  judge-reads.Learnt,
-  smallest-other-reads.Asked,
-  smallest-other-reads.Learnt,
-  worth-trying-reads.Asked,
-  worth-trying-reads.Learnt,
-  note-reads.Asked,
-  note-reads.Learnt,
-  seek-below t,
-  seek.Post,
-) (seek-at t) seek.Post seek-Inv-loop seek-μ-loop
+seek-smallest-other-requires : (t : ℕ) → seek-lts.Need-smallest-other-requires (claims t) (seek-at t) seek.Post seek-Inv-loop seek-μ-loop
 seek-smallest-other-requires t c κs = let e = c .before .before .before in tidy-wider (12 + e .args .depth) (e .args .seen) (e .pre .1 .3) 17 (omega (arith, e .pre .1 .2, e .pre .1 .0 .few))
 
-seek-loop-holds : (t : ℕ) → seek-lts.Need-loop-holds (
-  judge-reads.Asked,
-  judge-reads.Learnt,
-  smallest-other-reads.Asked,
-  smallest-other-reads.Learnt,
-  worth-trying-reads.Asked,
-  worth-trying-reads.Learnt,
-  note-reads.Asked,
-  note-reads.Learnt,
-  seek-below t,
-  seek.Post,
-) (seek-at t) seek.Post seek-Inv-loop seek-μ-loop
+seek-loop-holds : (t : ℕ) → seek-lts.Need-loop-holds (claims t) (seek-at t) seek.Post seek-Inv-loop seek-μ-loop
 seek-loop-holds t c =
     let e = c .before .before .before .before in
     let a = e .args in
     (omega arith, ap (first (suits (a .arc) (known (a .base)) (a .wanted))) (tries-first (a .pool .now) (a .arc .params) (a .depth) (7 + a .depth) (known (a .seen)) (a .vals) (omega (arith, e .pre .1 .2, c .before .if1 .left))))
 
-seek-mul-x : (t : ℕ) → seek-lts.Need-mul-x (
-  judge-reads.Asked,
-  judge-reads.Learnt,
-  smallest-other-reads.Asked,
-  smallest-other-reads.Learnt,
-  worth-trying-reads.Asked,
-  worth-trying-reads.Learnt,
-  note-reads.Asked,
-  note-reads.Learnt,
-  seek-below t,
-  seek.Post,
-) (seek-at t) seek.Post seek-Inv-loop seek-μ-loop
+seek-mul-x : (t : ℕ) → seek-lts.Need-mul-x (claims t) (seek-at t) seek.Post seek-Inv-loop seek-μ-loop
 seek-mul-x t c = omega arith
 
-seek-shared-slice-read-x : (t : ℕ) → seek-lts.Need-shared-slice-read-x (
-  judge-reads.Asked,
-  judge-reads.Learnt,
-  smallest-other-reads.Asked,
-  smallest-other-reads.Learnt,
-  worth-trying-reads.Asked,
-  worth-trying-reads.Learnt,
-  note-reads.Asked,
-  note-reads.Learnt,
-  seek-below t,
-  seek.Post,
-) (seek-at t) seek.Post seek-Inv-loop seek-μ-loop
+seek-shared-slice-read-x : (t : ℕ) → seek-lts.Need-shared-slice-read-x (claims t) (seek-at t) seek.Post seek-Inv-loop seek-μ-loop
 seek-shared-slice-read-x t c = omega (arith, c .before .loop-test .taken)
 
-seek-worth-trying-requires : (t : ℕ) → seek-lts.Need-worth-trying-requires (
-  judge-reads.Asked,
-  judge-reads.Learnt,
-  smallest-other-reads.Asked,
-  smallest-other-reads.Learnt,
-  worth-trying-reads.Asked,
-  worth-trying-reads.Learnt,
-  note-reads.Asked,
-  note-reads.Learnt,
-  seek-below t,
-  seek.Post,
-) (seek-at t) seek.Post seek-Inv-loop seek-μ-loop
+seek-worth-trying-requires : (t : ℕ) → seek-lts.Need-worth-trying-requires (claims t) (seek-at t) seek.Post seek-Inv-loop seek-μ-loop
 seek-worth-trying-requires t c κs = let e = c .before .before .before .before .before .before .before in (tidy-wider (12 + e .args .depth) (e .args .seen) (e .pre .1 .3) 17 (omega (arith, e .pre .1 .2, e .pre .1 .0 .few)), c .before .before .before .smallest-other .ensures)
 
-seek-add-w : (t : ℕ) → seek-lts.Need-add-w (
-  judge-reads.Asked,
-  judge-reads.Learnt,
-  smallest-other-reads.Asked,
-  smallest-other-reads.Learnt,
-  worth-trying-reads.Asked,
-  worth-trying-reads.Learnt,
-  note-reads.Asked,
-  note-reads.Learnt,
-  seek-below t,
-  seek.Post,
-) (seek-at t) seek.Post seek-Inv-loop seek-μ-loop
+seek-add-w : (t : ℕ) → seek-lts.Need-add-w (claims t) (seek-at t) seek.Post seek-Inv-loop seek-μ-loop
 seek-add-w t c = let e = c .before .before .before .before .before .before .before .before .before in omega (arith, e .pre .1 .0 .few, e .pre .1 .2, c .before .before .before .before .before .before .if1 .left)
 
-seek-mul-w : (t : ℕ) → seek-lts.Need-mul-w (
-  judge-reads.Asked,
-  judge-reads.Learnt,
-  smallest-other-reads.Asked,
-  smallest-other-reads.Learnt,
-  worth-trying-reads.Asked,
-  worth-trying-reads.Learnt,
-  note-reads.Asked,
-  note-reads.Learnt,
-  seek-below t,
-  seek.Post,
-) (seek-at t) seek.Post seek-Inv-loop seek-μ-loop
+seek-mul-w : (t : ℕ) → seek-lts.Need-mul-w (claims t) (seek-at t) seek.Post seek-Inv-loop seek-μ-loop
 seek-mul-w t c = let e = c .before .before .before .before .before .before .before .before .before in omega (arith, e .pre .1 .0 .few, e .pre .1 .2, c .before .before .before .before .before .before .if1 .left)
 
-seek-array-write-w : (t : ℕ) → seek-lts.Need-array-write-w (
-  judge-reads.Asked,
-  judge-reads.Learnt,
-  smallest-other-reads.Asked,
-  smallest-other-reads.Learnt,
-  worth-trying-reads.Asked,
-  worth-trying-reads.Learnt,
-  note-reads.Asked,
-  note-reads.Learnt,
-  seek-below t,
-  seek.Post,
-) (seek-at t) seek.Post seek-Inv-loop seek-μ-loop
+seek-array-write-w : (t : ℕ) → seek-lts.Need-array-write-w (claims t) (seek-at t) seek.Post seek-Inv-loop seek-μ-loop
 seek-array-write-w t c = let e = c .before .before .before .before .before .before .before .before .before in omega (arith, e .pre .1 .0 .few, e .pre .1 .2, c .before .before .before .before .before .before .if1 .left)
 
-seek-add-seek : (t : ℕ) → seek-lts.Need-add-seek (
-  judge-reads.Asked,
-  judge-reads.Learnt,
-  smallest-other-reads.Asked,
-  smallest-other-reads.Learnt,
-  worth-trying-reads.Asked,
-  worth-trying-reads.Learnt,
-  note-reads.Asked,
-  note-reads.Learnt,
-  seek-below t,
-  seek.Post,
-) (seek-at t) seek.Post seek-Inv-loop seek-μ-loop
+seek-add-seek : (t : ℕ) → seek-lts.Need-add-seek (claims t) (seek-at t) seek.Post seek-Inv-loop seek-μ-loop
 seek-add-seek t c = let e = c .before .before .before .before .before .before .before .before .before in omega (arith, e .pre .1 .0 .few, e .pre .1 .2, c .before .before .before .before .before .before .if1 .left)
 
-seek-note-requires : (t : ℕ) → seek-lts.Need-note-requires (
-  judge-reads.Asked,
-  judge-reads.Learnt,
-  smallest-other-reads.Asked,
-  smallest-other-reads.Learnt,
-  worth-trying-reads.Asked,
-  worth-trying-reads.Learnt,
-  note-reads.Asked,
-  note-reads.Learnt,
-  seek-below t,
-  seek.Post,
-) (seek-at t) seek.Post seek-Inv-loop seek-μ-loop
+seek-note-requires : (t : ℕ) → seek-lts.Need-note-requires (claims t) (seek-at t) seek.Post seek-Inv-loop seek-μ-loop
 seek-note-requires t c κs = let e = c .before .before .before .before .before .before .before .before .before in tidy-wider (12 + e .args .depth) (e .args .seen) (e .pre .1 .3) 16 (omega (arith, e .pre .1 .0 .few, e .pre .1 .2))
 
-seek-seek-requires : (t : ℕ) → seek-lts.Need-seek-requires (
-  judge-reads.Asked,
-  judge-reads.Learnt,
-  smallest-other-reads.Asked,
-  smallest-other-reads.Learnt,
-  worth-trying-reads.Asked,
-  worth-trying-reads.Learnt,
-  note-reads.Asked,
-  note-reads.Learnt,
-  seek-below t,
-  seek.Post,
-) (seek-at t) seek.Post seek-Inv-loop seek-μ-loop
+seek-seek-requires : (t : ℕ) → seek-lts.Need-seek-requires (claims t) (seek-at t) seek.Post seek-Inv-loop seek-μ-loop
 seek-seek-requires t c κs =
     let e = c .before .before .before .before .before .before .before .before .before .before in
     let low = c .before .before .before .before .before .before .before .if1 .left in (
@@ -253,18 +114,7 @@ seek-seek-requires t c κs =
       ),
     )
 
-seek-returns-2 : (t : ℕ) → seek-lts.Need-returns-2 (
-  judge-reads.Asked,
-  judge-reads.Learnt,
-  smallest-other-reads.Asked,
-  smallest-other-reads.Learnt,
-  worth-trying-reads.Asked,
-  worth-trying-reads.Learnt,
-  note-reads.Asked,
-  note-reads.Learnt,
-  seek-below t,
-  seek.Post,
-) (seek-at t) seek.Post seek-Inv-loop seek-μ-loop
+seek-returns-2 : (t : ℕ) → seek-lts.Need-returns-2 (claims t) (seek-at t) seek.Post seek-Inv-loop seek-μ-loop
 seek-returns-2 t c =
     let e = c .before .before .before .before .before .before .before .before .before .before .before .before in
     let a = e .args in
@@ -279,46 +129,13 @@ seek-returns-2 t c =
     (sym (c .before .before .before .before .worth-trying .ensures) ∙ c .before .before .before .if2 .taken) found (c .if3 .taken)
     ∙ ap foundOf (l .inv .1)
 
-seek-add-i : (t : ℕ) → seek-lts.Need-add-i (
-  judge-reads.Asked,
-  judge-reads.Learnt,
-  smallest-other-reads.Asked,
-  smallest-other-reads.Learnt,
-  worth-trying-reads.Asked,
-  worth-trying-reads.Learnt,
-  note-reads.Asked,
-  note-reads.Learnt,
-  seek-below t,
-  seek.Post,
-) (seek-at t) seek.Post seek-Inv-loop seek-μ-loop
+seek-add-i : (t : ℕ) → seek-lts.Need-add-i (claims t) (seek-at t) seek.Post seek-Inv-loop seek-μ-loop
 seek-add-i t c = omega (arith, c .before .before .before .loop-test .taken)
 
-seek-loop-less : (t : ℕ) → seek-lts.Need-loop-less (
-  judge-reads.Asked,
-  judge-reads.Learnt,
-  smallest-other-reads.Asked,
-  smallest-other-reads.Learnt,
-  worth-trying-reads.Asked,
-  worth-trying-reads.Learnt,
-  note-reads.Asked,
-  note-reads.Learnt,
-  seek-below t,
-  seek.Post,
-) (seek-at t) seek.Post seek-Inv-loop seek-μ-loop
+seek-loop-less : (t : ℕ) → seek-lts.Need-loop-less (claims t) (seek-at t) seek.Post seek-Inv-loop seek-μ-loop
 seek-loop-less t c = omega (arith, c .before .before .before .loop-test .taken)
 
-seek-loop-again : (t : ℕ) → seek-lts.Need-loop-again (
-  judge-reads.Asked,
-  judge-reads.Learnt,
-  smallest-other-reads.Asked,
-  smallest-other-reads.Learnt,
-  worth-trying-reads.Asked,
-  worth-trying-reads.Learnt,
-  note-reads.Asked,
-  note-reads.Learnt,
-  seek-below t,
-  seek.Post,
-) (seek-at t) seek.Post seek-Inv-loop seek-μ-loop
+seek-loop-again : (t : ℕ) → seek-lts.Need-loop-again (claims t) (seek-at t) seek.Post seek-Inv-loop seek-μ-loop
 seek-loop-again t c =
     let e = c .before .before .before .before .before .before .before .before .before in
     let a = e .args in
@@ -337,18 +154,7 @@ seek-loop-again t c =
     (λ w. (omega arith, sym (turn-skip (a .pool .now) m (7 + a .depth) (known (a .seen)) (a .vals) (l .i) low p (sym worth ∙ w .left)) ∙ l .inv .1))
     (c .if2 .came)
 
-seek-returns-3 : (t : ℕ) → seek-lts.Need-returns-3 (
-  judge-reads.Asked,
-  judge-reads.Learnt,
-  smallest-other-reads.Asked,
-  smallest-other-reads.Learnt,
-  worth-trying-reads.Asked,
-  worth-trying-reads.Learnt,
-  note-reads.Asked,
-  note-reads.Learnt,
-  seek-below t,
-  seek.Post,
-) (seek-at t) seek.Post seek-Inv-loop seek-μ-loop
+seek-returns-3 : (t : ℕ) → seek-lts.Need-returns-3 (claims t) (seek-at t) seek.Post seek-Inv-loop seek-μ-loop
 unfolding foundOf
 seek-returns-3 t c =
     let a = c .before .before .before .before .before .before .args in
@@ -357,18 +163,7 @@ seek-returns-3 t c =
     ap foundOf (sym (turn-done (a .pool .now) (a .arc .params - (a .depth + 1)) (7 + a .depth) (known (a .seen)) (a .vals) p (l .i) (omega (arith, c .loop-test .left))) ∙ l .inv .1)
 
 pub +seek-spec : {M : Type 1} → statement M
-+seek-spec = close μ-seek λ t. seek-lts.spec (
-  judge-reads.Asked,
-  judge-reads.Learnt,
-  smallest-other-reads.Asked,
-  smallest-other-reads.Learnt,
-  worth-trying-reads.Asked,
-  worth-trying-reads.Learnt,
-  note-reads.Asked,
-  note-reads.Learnt,
-  seek-below t,
-  seek.Post,
-)
++seek-spec = close μ-seek λ t. seek-lts.spec (claims t)
     (seek-at t)
     seek.Post
     seek-Inv-loop
