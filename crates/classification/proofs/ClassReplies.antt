@@ -72,7 +72,7 @@ module _ (r : ℕ) (cs v : List ℕ) (q : Written) (e : q ≡ doneOf (testLists 
     pub class-is : (x : ℕ) (p f : List ℕ) → take (length cs) p ≡ cs → f ≡ padded 5 v
         → x ≡ index (lists (length v) (length cs)) (labels (take (length cs) p) (take (length v) f)) → Is x ≡ numberOf (classFor r cs v)
     class-is x p f cp fp g =
-        let front : take (length v) f ≡ v = ap (take (length v)) fp ∙ padded-front v (length v) refl in
+        let front : take (length v) f ≡ v = ap (take (length v)) fp ∙ padded-front v (length v) refl (class-taken .1) in
         number-is (classFor r cs v) x (index (lists r (length cs)) (labels cs v))
         (told-next (testLists (eqb (length v) r) r cs) (λ ok. accepted (index (lists r (length cs)) (labels cs v))) q e d)
         (g ∙ ap₂ (λ a b. index (lists (length v) (length cs)) (labels a b)) cp front ∙ ap (λ m. index (lists m (length cs)) (labels cs v)) (class-taken .2))
@@ -130,7 +130,7 @@ module _ (r : ℕ) (cs v out : List ℕ) (s : ℕ) (sq : s ≡ r * r) (q : Writt
     pub matrix-done : (p f exit : List ℕ) → take (length cs) p ≡ cs → f ≡ padded 5 v → exit ≡ written (matrix (take (length cs) p) (take (length v) f)) out
         → (Done ≡ doneOf (matrixFor r cs v out)) × (exit ≡ writtenOf (matrixFor r cs v out) out)
     matrix-done p f exit cp fp w =
-        let front : take (length v) f ≡ v = ap (take (length v)) fp ∙ padded-front v (length v) refl in
+        let front : take (length v) f ≡ v = ap (take (length v)) fp ∙ padded-front v (length v) refl (matrix-taken .1) in
         write-done (matrixFor r cs v out) _ (matrix cs v) out exit (told-next tests (λ ok. accepted (matrix cs v)) q e d) (ap₂ matrix cp front) w
 
 -- The matrix of a class
@@ -167,7 +167,7 @@ module _ (r c k : ℕ) (out : List ℕ) (s : ℕ) (sq : s ≡ r * r) (q : Writte
         → (Done ≡ doneOf (classMatrixFor r c k out)) × (exit ≡ writtenOf (classMatrixFor r c k out) out)
     class-matrix-done labels exit h l w =
         write-done (classMatrixFor r c k out) _ (classMatrix c (listOf r c k)) out exit (class-matrix-next ∙ in-range k (length (lists r c)) class-given h)
-        (ap (classMatrix c) (list-front r c k labels h l)) w
+        (ap (classMatrix c) (list-front r c k (class-matrix-taken .0) labels h l)) w
 
 -- The class of a matrix
 

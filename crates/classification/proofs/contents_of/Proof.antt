@@ -47,7 +47,7 @@ contents-of-requires : tie.Need-contents-of-requires
 contents-of-requires c κs =
     let a = c .before .before .before .before .before .before .before .before .before .args in
     let (q, l, w) = contents-taken (a .registers) (a .constants .now) (a .class) (a .out .now) _ (c .before .before .before .before .before .before .test-lists .ensures) (c .before .before .before .before .enum-told .given .1) in
-    (l, q, list-legal (a .registers) (length (a .constants .now)) (a .class) _ (omega (arith, c .before .before .if1 .left, c .before .before .before .class-count .ensures)) (c .before .class-list .ensures))
+    (l, q, list-legal (a .registers) (length (a .constants .now)) (a .class) q _ (omega (arith, c .before .before .if1 .left, c .before .before .before .class-count .ensures)) (c .before .class-list .ensures))
 
 put-requires : tie.Need-put-requires
 put-requires c κs =
@@ -65,8 +65,9 @@ returns-3 : tie.Need-returns-3
 returns-3 c =
     let a = c .before .before .before .before .before .before .before .before .before .before .before .before .before .before .args in
     let h : a .class < length (lists (a .registers) (length (a .constants .now))) = omega (arith, c .before .before .before .before .before .before .before .if1 .left, c .before .before .before .before .before .before .before .before .class-count .ensures) in
+    let few = contents-taken (a .registers) (a .constants .now) (a .class) (a .out .now) _ (c .before .before .before .before .before .before .before .before .before .before .before .test-lists .ensures) (c .before .before .before .before .before .before .before .before .before .enum-told .given .1) .0 in
     contents-done (a .registers) (a .constants .now) (a .class) (a .out .now) _ (c .before .before .before .before .before .before .before .before .before .before .before .test-lists .ensures) (c .before .before .before .before .before .before .before .before .before .enum-told .given .1) _ _ h
-    (given-back (a .registers) (a .constants .now) _ _ (a .class) h (c .before .before .before .before .before .before .class-list .ensures) (c .before .before .before .before .before .pair .ensures) _ (c .before .before .before .before .contents-of .ensures)) (c .before .before .put .ensures)
+    (given-back (a .registers) few (a .constants .now) _ _ (a .class) h (c .before .before .before .before .before .before .class-list .ensures) (c .before .before .before .before .before .pair .ensures) _ (c .before .before .before .before .contents-of .ensures)) (c .before .before .put .ensures)
 
 pub contents-of-spec : {M : Type 1} → statement M
 contents-of-spec =

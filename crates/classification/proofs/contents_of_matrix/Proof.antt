@@ -42,7 +42,7 @@ contents-of-requires c κs =
     let a = c .before .before .before .before .before .before .before .before .before .before .before .before .before .args in
     let (q, l, m, w) = back-taken (a .registers) (a .constants .now) (a .matrix .now) (a .out .now) _ (c .before .before .before .before .before .before .before .before .before .square .ensures) _ (c .before .before .before .before .before .before .before .before .test-lists .ensures) (c .before .before .before .before .before .before .enum-told .given .1) in
     let h = class-listed (a .registers) (length (a .constants .now)) (a .matrix .now) _ (sym (c .before .before .before .found .given .1) ∙ c .before .before .before .before .before .class-of-matrix .ensures) .0 in
-    (l, q, list-legal (a .registers) (length (a .constants .now)) _ _ h (c .before .class-list .ensures))
+    (l, q, list-legal (a .registers) (length (a .constants .now)) _ q _ h (c .before .class-list .ensures))
 
 put-requires : tie.Need-put-requires
 put-requires c κs =
@@ -67,8 +67,9 @@ returns-2 c =
     let a = c .before .before .before .before .before .before .before .before .before .before .before .before .before .before .before .before .before .before .args in
     let f = sym (c .before .before .before .before .before .before .before .before .found .given .1) ∙ c .before .before .before .before .before .before .before .before .before .before .class-of-matrix .ensures in
     let h = class-listed (a .registers) (length (a .constants .now)) (a .matrix .now) _ f .0 in
+    let few = back-taken (a .registers) (a .constants .now) (a .matrix .now) (a .out .now) _ (c .before .before .before .before .before .before .before .before .before .before .before .before .before .before .square .ensures) _ (c .before .before .before .before .before .before .before .before .before .before .before .before .before .test-lists .ensures) (c .before .before .before .before .before .before .before .before .before .before .before .enum-told .given .1) .0 in
     back-done (a .registers) (a .constants .now) (a .matrix .now) (a .out .now) _ (c .before .before .before .before .before .before .before .before .before .before .before .before .before .before .square .ensures) _ (c .before .before .before .before .before .before .before .before .before .before .before .before .before .test-lists .ensures) (c .before .before .before .before .before .before .before .before .before .before .before .enum-told .given .1) _ _ _ f
-    (given-back (a .registers) (a .constants .now) _ _ _ h (c .before .before .before .before .before .before .class-list .ensures) (c .before .before .before .before .before .pair .ensures) _ (c .before .before .before .before .contents-of .ensures)) (c .before .before .put .ensures)
+    (given-back (a .registers) few (a .constants .now) _ _ _ h (c .before .before .before .before .before .before .class-list .ensures) (c .before .before .before .before .before .pair .ensures) _ (c .before .before .before .before .contents-of .ensures)) (c .before .before .put .ensures)
 
 returns-3 : tie.Need-returns-3
 returns-3 c =
