@@ -23,15 +23,14 @@ use Rattle.lists.proofs.Arrays.{written-entry, written-length}
 use Rattle.opening.specs.Opening.{openTable, labelsOf, classLabels}
 use Rattle.opening.proofs.Opened.{opened-readable}
 use Rattle.opening.proofs.Labels.{counts-few, labels-held, classes-most}
-use Rattle.conditions.specs.Values.{ClassLabels}
-use Rattle.forms.specs.ClassLabels.{Lent}
+use Rattle.forms.specs.ClassLabels.{Labels, Lent}
 
 -- the table of these bytes has the form t, and the labels of its classes are cat
 pub record Opened (s t cat : List ℕ) : Type 0 where
   pub outcome : openTable s ≡ accepted t
   pub readable : Readable t
   pub lent : Lent t cat (length (classes (automatonOf t)))
-  pub held : ClassLabels (automatonOf t) cat
+  pub held : Labels (automatonOf t) cat
   pub long : length cat ≡ 3370
 
 zeros : (n i : ℕ) → getD {A = ℕ} (replicate n 0) i 0 ≡ 0
@@ -68,7 +67,7 @@ told-opened s t v cat w q e f l a = go (openTable s) refl (sym e ∙ a) f l
         let outcome : openTable s ≡ accepted t = d ∙ ap accepted (sym f) in
         let readable : Readable t = opened-readable s t outcome .0 in
         let same : cat ≡ classLabels t = l ∙ ap classLabels (sym f) in
-        let held : ClassLabels (automatonOf t) cat = labels-held t (replicate 3370 0) cat readable (length-replicate {0} {A = ℕ} 3370 0) same in
+        let held : Labels (automatonOf t) cat = labels-held t (replicate 3370 0) cat readable (length-replicate {0} {A = ℕ} 3370 0) same in
         record {
           outcome = outcome;
           readable = readable;

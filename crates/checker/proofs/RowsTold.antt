@@ -24,8 +24,8 @@ use Rattle.automata.proofs.Bisimulation.{related-below}
 use Rattle.automata.proofs.Questions.{holds-number}
 use Rattle.automata.proofs.Rows.{formulas-length, question-fits}
 use Rattle.formulas.specs.Rows.{shown}
-use Rattle.formulas.proofs.Rounds.{member-words}
-use Rattle.formulas.proofs.Rules.{sat-length}
+use Rattle.formulas.proofs.FrontierRounds.{member-words}
+use Rattle.formulas.proofs.RowSets.{sat-length}
 use Rattle.formulas.proofs.Buffer.{shown-row, held-formula}
 use Rattle.reach.proofs.Graph.{graph-fits}
 use Rattle.checker.specs.Truth.{RowsClaim}
