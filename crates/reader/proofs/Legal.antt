@@ -35,7 +35,7 @@ module _ (Q : Progress → List ℕ → Type 0) (step : (p : Progress) (f t : Li
       by (accepted x) z e =
           let same : x .form ≡ u = cc in
           let k = file-keeps tableRules file limit (λ m y. Q (y .progress) (y .form))
-              (λ m y fs l j w q. step (y .progress) (padded fs) (y .form) l (stands (y .progress) (length fs) (padded fs) j) q) x begun s h z in
+          (λ m y fs l j w q. step (y .progress) (padded fs) (y .form) l (stands (y .progress) (length fs) (padded fs) j) q) x begun s h z in
           (x .progress, subst (Q (x .progress)) same (k .1), k .2)
 
 completed : (p : Progress) → complete p ≡ true → (4 ≤ p .stage) × (p .transitions ≤ p .transition)

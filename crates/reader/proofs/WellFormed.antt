@@ -9,11 +9,11 @@ use borrow.Author.Tests.{ltb-true, ltb-false}
 use native.Mathlib.Omega.{arith}
 use lib.Dec.{T, leb, eqb, ltb, le→leb, lt→ltb}
 use lib.Ieee.Fits.{and-i}
-use lib.ListN.{length, getD, length-map}
+use lib.ListN.{length, length-map}
 use Rattle.graphs.specs.Lists.{item, upFrom, allOf}
 use Rattle.graphs.proofs.Lists.{getD-map, upFrom-length, upFrom-getD}
 use Rattle.classes.specs.Renaming.{rising}
-use Rattle.automata.specs.Automaton.{Assignment, Transition, Automaton, arity}
+use Rattle.automata.specs.Automaton.{Assignment, Automaton, arity}
 use Rattle.automata.specs.WellFormed.{inside, fitsTerm, fitsCondition, fitsAssignment, constantCount, fitsTransition, fitsConditions, wellFormed, limited, fitsTarget}
 use Rattle.refusals.specs.Judged.Judged.{accepted}
 use Rattle.forms.specs.TableForm.{cell, present, termOf, conditionAt, assignmentAt, transitionAt, automatonOf, targetOf}
@@ -113,17 +113,7 @@ module _ (t : List ℕ) where
   unfolding automatonOf
   transition-count = map-upFrom (transitionAt t) 0 (cell t 0 5)
 
-  pub transition-at : (i : ℕ) (d : Transition) → i < cell t 0 5 → getD (automatonOf t .transitions) i d ≡ transitionAt t i
-  unfolding automatonOf
-  transition-at i d h = getD-map (transitionAt t) (upFrom 0 (cell t 0 5)) i 0 d (omega (arith, upFrom-length 0 (cell t 0 5))) ∙ ap (transitionAt t) (upFrom-getD 0 (cell t 0 5) i h ∙ omega arith)
-
-  -- the constant of number a, and the parameters of action a
-  pub constant-at : (a : ℕ) → Inside (cell t 0 2) a → item (automatonOf t .constants) a ≡ cell t a 1
-  unfolding automatonOf
-  constant-at a h =
-      getD-map (λ i. cell t i 1) (upFrom 1 (cell t 0 2)) (pred a) 0 0 (omega (arith, upFrom-length 1 (cell t 0 2)))
-      ∙ ap (λ x. cell t x 1) (upFrom-getD 1 (cell t 0 2) (pred a) (omega arith) ∙ omega arith)
-
+  -- the parameters of action a
   pub arity-at : (a : ℕ) → Inside (cell t 0 4) a → item (automatonOf t .arities) a ≡ cell t (2 + a) 1
   unfolding automatonOf
   arity-at a h =
@@ -182,14 +172,6 @@ module _ (t : List ℕ) (n : Legal t) where
       (le→leb (length (a .transitions)) 64 (rw (transition-count t) (n .transitions)))
       (upFrom-all (λ x. leb (length (x .guard)) 8) (transitionAt t) 0 (cell t 0 5)
       (λ x u v. le→leb (length (transitionAt t x .guard)) 8 (omega (arith, length-map (present t (29 + 14 * x) 8) (conditionAt t), present-few t (29 + 14 * x) 8))))
-
--- an action has at most three parameters
-pub params-few : (t : List ℕ) → Legal t → (i k q : ℕ) → TransitionRows (cell t 0 1) (cell t 0 2) (cell t 0 3) (cell t 0 4) t i k q → q ≤ 3
-params-few t n i k q s =
-    let a : ℕ = cell t (28 + 14 * i) 2 in
-    let h : Inside (cell t 0 4) a = s .head .action in
-    let e : 3 + (a - 1) ≡ 2 + a = omega arith in
-    subst (λ x. x ≤ 3) (ap (λ x. cell t x 1) e ∙ s .arity) (n .arities (a - 1) (omega arith))
 
 -- what is read as a table is well formed and keeps every limit
 pub table-well-formed : (s t : List ℕ) → readTable s ≡ accepted t → T (wellFormed (automatonOf t)) × T (limited (automatonOf t))

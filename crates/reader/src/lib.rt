@@ -134,17 +134,20 @@ fn may_stand(p: Progress, k: Kind, n: usize) -> bool
 fn has_range(p: Progress, f: [u32; 6]) -> bool
     ensures { λ r. ⌜ r ≡ inRange p f ⌝ }
 {
+    let a = f[1];
+    let b = f[2];
+    let c = f[3];
+    let d = f[4];
+    let e = f[5];
     match f[0] {
-        1 => (f[1] <= 5) & (f[2] <= 2) & in_count(f[3], 16) & in_count(f[4], 16) & (f[5] <= 64),
+        1 => (a <= 5) & (b <= 2) & in_count(c, 16) & in_count(d, 16) & (e <= 64),
         2 => true,
-        3 => f[1] <= 3,
-        4 => in_count(f[1], p.locations),
-        5 => has_term(p, f[1], f[2]) & in_count(f[3], 2) & has_term(p, f[4], f[5]),
-        6 => {
-            in_count(f[1], p.locations) & in_count(f[2], p.actions) & in_count(f[3], p.locations)
-        }
-        7 => has_term(p, f[1], f[2]) & in_count(f[3], 2) & has_term(p, f[4], f[5]),
-        8 => in_count(f[1], p.registers) & has_term(p, f[2], f[3]),
+        3 => a <= 3,
+        4 => in_count(a, p.locations),
+        5 => has_term(p, a, b) & in_count(c, 2) & has_term(p, d, e),
+        6 => in_count(a, p.locations) & in_count(b, p.actions) & in_count(c, p.locations),
+        7 => has_term(p, a, b) & in_count(c, 2) & has_term(p, d, e),
+        8 => in_count(a, p.registers) & has_term(p, b, c),
         _ => true,
     }
 }
@@ -236,22 +239,24 @@ fn advanced(p: Progress, k: Kind, f: [u32; 6], a: u32) -> Progress
     requires { ⌜ Small p 50000 ⌝ }
     ensures { λ r. ⌜ r ≡ advance p k f a ⌝ }
 {
-    let head = f[0] == 1;
-    let new = f[0] == 6;
+    let line = f[0];
+    let first = f[1];
+    let head = line == 1;
+    let new = line == 6;
     Progress {
-        registers: pick(head, f[1], p.registers),
+        registers: pick(head, first, p.registers),
         constants: pick(head, f[2], p.constants),
         locations: pick(head, f[3], p.locations),
         actions: pick(head, f[4], p.actions),
         transitions: pick(head, f[5], p.transitions),
         stage: k.next,
-        ids: pick(f[0] == 2, p.ids + 1, p.ids),
-        acts: pick(f[0] == 3, p.acts + 1, p.acts),
+        ids: pick(line == 2, p.ids + 1, p.ids),
+        acts: pick(line == 3, p.acts + 1, p.acts),
         transition: pick(new, p.transition + 1, p.transition),
         place: pick(new, p.transition, p.place),
         conds: pick(new, 0, pick(k.condition, p.conds + 1, p.conds)),
         params: pick(new, a, p.params),
-        newest: pick(k.rising, f[1], p.newest),
+        newest: pick(k.rising, first, p.newest),
     }
 }
 

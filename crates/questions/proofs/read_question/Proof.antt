@@ -31,8 +31,8 @@ returns-2 c =
     let a = c .before .before .before .before .before .before .before .args in
     let d = c .before .before .before .read-bytes in
     let e =
-        read-accepted (questionRules (counts (a .registers) (a .constants) (a .locations))) 2 608 nothingRead (a .s .now) (reading (d .result) (d .last .1 .1 .0))
-        (c .before .before .before .before .before .if1 .left) (d .ensures .0) (c .before .at-end .result) (c .before .at-end .ensures) (c .if2 .taken) in
+    read-accepted (questionRules (counts (a .registers) (a .constants) (a .locations))) 2 608 nothingRead (a .s .now) (reading (d .result) (d .last .1 .1 .0))
+    (c .before .before .before .before .before .if1 .left) (d .ensures .0) (c .before .at-end .result) (c .before .at-end .ensures) (c .if2 .taken) in
     (rw e, rw e)
 
 add-t18 : tie.Need-add-t18
@@ -44,8 +44,8 @@ returns-3 c =
     let a = c .before .before .before .before .before .before .before .args in
     let d = c .before .before .before .read-bytes in
     let e =
-        read-refused (questionRules (counts (a .registers) (a .constants) (a .locations))) 2 608 nothingRead (a .s .now) (reading (d .result) (d .last .1 .1 .0))
-        (c .before .before .before .before .before .if1 .left) (d .ensures .0) (c .before .at-end .result) (c .before .at-end .ensures) (c .if2 .left) in
+    read-refused (questionRules (counts (a .registers) (a .constants) (a .locations))) 2 608 nothingRead (a .s .now) (reading (d .result) (d .last .1 .1 .0))
+    (c .before .before .before .before .before .if1 .left) (d .ensures .0) (c .before .at-end .result) (c .before .at-end .ensures) (c .if2 .left) in
     (rw e, rw e)
 
 pub read-question-spec : {M : Type 1} → statement M

@@ -38,7 +38,7 @@ kind-at-requires : tie.Need-kind-at-requires
 kind-at-requires c κs = search needs
 
 put-row-requires : tie.Need-put-row-requires
-put-row-requires c κs = 
+put-row-requires c κs =
     let a = c .before .before .before .before .before .args in
     let h : Fits w32 (getD (a .t2) 1 0) = search needs in
     omega (arith, ap (λ (k : Kind). k .row) (c .before .kind-at .ensures), row-low (a .p) (getD (a .t2) 0 0) (getD (a .t2) 1 0) (c .before .before .before .before .before .pre) (h .fits))

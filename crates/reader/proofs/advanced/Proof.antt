@@ -5,53 +5,44 @@ use Rattle.reader.specs.TableRules.{advance}
 use Rattle.reader.proofs.advanced.Statement.{statement}
 use Rattle.reader.proofs.advanced.Tie as tie
 
-array-read-head : tie.Need-array-read-head
-array-read-head c = search needs
+array-read-line : tie.Need-array-read-line
+array-read-line c = search needs
 
-array-read-new : tie.Need-array-read-new
-array-read-new c = search needs
-
-array-read-pick : tie.Need-array-read-pick
-array-read-pick c = search needs
+array-read-first : tie.Need-array-read-first
+array-read-first c = search needs
 
 pick-requires : tie.Need-pick-requires
 pick-requires c κs = search needs
 
-array-read-pick-2 : tie.Need-array-read-pick-2
-array-read-pick-2 c = search needs
+array-read-pick : tie.Need-array-read-pick
+array-read-pick c = search needs
 
 pick-requires-2 : tie.Need-pick-requires-2
 pick-requires-2 c κs = search needs
 
-array-read-pick-3 : tie.Need-array-read-pick-3
-array-read-pick-3 c = search needs
+array-read-pick-2 : tie.Need-array-read-pick-2
+array-read-pick-2 c = search needs
 
 pick-requires-3 : tie.Need-pick-requires-3
 pick-requires-3 c κs = search needs
 
-array-read-pick-4 : tie.Need-array-read-pick-4
-array-read-pick-4 c = search needs
+array-read-pick-3 : tie.Need-array-read-pick-3
+array-read-pick-3 c = search needs
 
 pick-requires-4 : tie.Need-pick-requires-4
 pick-requires-4 c κs = search needs
 
-array-read-pick-5 : tie.Need-array-read-pick-5
-array-read-pick-5 c = search needs
+array-read-pick-4 : tie.Need-array-read-pick-4
+array-read-pick-4 c = search needs
 
 pick-requires-5 : tie.Need-pick-requires-5
 pick-requires-5 c κs = search needs
-
-array-read-pick-6 : tie.Need-array-read-pick-6
-array-read-pick-6 c = search needs
 
 add-pick : tie.Need-add-pick
 add-pick c = search needs
 
 pick-requires-6 : tie.Need-pick-requires-6
 pick-requires-6 c κs = search needs
-
-array-read-pick-7 : tie.Need-array-read-pick-7
-array-read-pick-7 c = search needs
 
 add-pick-2 : tie.Need-add-pick-2
 add-pick-2 c = search needs
@@ -80,9 +71,6 @@ pick-requires-11 c κs = search needs
 pick-requires-12 : tie.Need-pick-requires-12
 pick-requires-12 c κs = search needs
 
-array-read-pick-8 : tie.Need-array-read-pick-8
-array-read-pick-8 c = search needs
-
 pick-requires-13 : tie.Need-pick-requires-13
 pick-requires-13 c κs = search needs
 
@@ -94,22 +82,19 @@ pub advanced-spec : {M : Type 1} → statement M
 advanced-spec =
     tie.close
     (tie.spec
-    array-read-head
-    array-read-new
-    array-read-pick
+    array-read-line
+    array-read-first
     pick-requires
-    array-read-pick-2
+    array-read-pick
     pick-requires-2
-    array-read-pick-3
+    array-read-pick-2
     pick-requires-3
-    array-read-pick-4
+    array-read-pick-3
     pick-requires-4
-    array-read-pick-5
+    array-read-pick-4
     pick-requires-5
-    array-read-pick-6
     add-pick
     pick-requires-6
-    array-read-pick-7
     add-pick-2
     pick-requires-7
     add-pick-3
@@ -119,6 +104,5 @@ advanced-spec =
     pick-requires-10
     pick-requires-11
     pick-requires-12
-    array-read-pick-8
     pick-requires-13
     returns)

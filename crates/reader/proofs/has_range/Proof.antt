@@ -6,116 +6,62 @@ use Rattle.reader.proofs.Bounds.{other}
 use Rattle.reader.proofs.has_range.Statement.{statement}
 use Rattle.reader.proofs.has_range.Tie as tie
 
+array-read-a : tie.Need-array-read-a
+array-read-a c = search needs
+
+array-read-b : tie.Need-array-read-b
+array-read-b c = search needs
+
+array-read-c : tie.Need-array-read-c
+array-read-c c = search needs
+
+array-read-d : tie.Need-array-read-d
+array-read-d c = search needs
+
+array-read-e : tie.Need-array-read-e
+array-read-e c = search needs
+
 array-read-match : tie.Need-array-read-match
 array-read-match c = search needs
-
-array-read-result : tie.Need-array-read-result
-array-read-result c = search needs
-
-array-read-result-2 : tie.Need-array-read-result-2
-array-read-result-2 c = search needs
-
-array-read-in-count : tie.Need-array-read-in-count
-array-read-in-count c = search needs
 
 in-count-requires : tie.Need-in-count-requires
 in-count-requires c κs = search needs
 
-array-read-in-count-2 : tie.Need-array-read-in-count-2
-array-read-in-count-2 c = search needs
-
 in-count-requires-2 : tie.Need-in-count-requires-2
 in-count-requires-2 c κs = search needs
-
-array-read-result-3 : tie.Need-array-read-result-3
-array-read-result-3 c = search needs
-
-array-read-result-4 : tie.Need-array-read-result-4
-array-read-result-4 c = search needs
-
-array-read-in-count-3 : tie.Need-array-read-in-count-3
-array-read-in-count-3 c = search needs
 
 in-count-requires-3 : tie.Need-in-count-requires-3
 in-count-requires-3 c κs = search needs
 
-array-read-has-term : tie.Need-array-read-has-term
-array-read-has-term c = search needs
-
-array-read-has-term-2 : tie.Need-array-read-has-term-2
-array-read-has-term-2 c = search needs
-
 has-term-requires : tie.Need-has-term-requires
 has-term-requires c κs = search needs
-
-array-read-in-count-4 : tie.Need-array-read-in-count-4
-array-read-in-count-4 c = search needs
 
 in-count-requires-4 : tie.Need-in-count-requires-4
 in-count-requires-4 c κs = search needs
 
-array-read-has-term-3 : tie.Need-array-read-has-term-3
-array-read-has-term-3 c = search needs
-
-array-read-has-term-4 : tie.Need-array-read-has-term-4
-array-read-has-term-4 c = search needs
-
 has-term-requires-2 : tie.Need-has-term-requires-2
 has-term-requires-2 c κs = search needs
-
-array-read-in-count-5 : tie.Need-array-read-in-count-5
-array-read-in-count-5 c = search needs
 
 in-count-requires-5 : tie.Need-in-count-requires-5
 in-count-requires-5 c κs = search needs
 
-array-read-in-count-6 : tie.Need-array-read-in-count-6
-array-read-in-count-6 c = search needs
-
 in-count-requires-6 : tie.Need-in-count-requires-6
 in-count-requires-6 c κs = search needs
-
-array-read-in-count-7 : tie.Need-array-read-in-count-7
-array-read-in-count-7 c = search needs
 
 in-count-requires-7 : tie.Need-in-count-requires-7
 in-count-requires-7 c κs = search needs
 
-array-read-has-term-5 : tie.Need-array-read-has-term-5
-array-read-has-term-5 c = search needs
-
-array-read-has-term-6 : tie.Need-array-read-has-term-6
-array-read-has-term-6 c = search needs
-
 has-term-requires-3 : tie.Need-has-term-requires-3
 has-term-requires-3 c κs = search needs
-
-array-read-in-count-8 : tie.Need-array-read-in-count-8
-array-read-in-count-8 c = search needs
 
 in-count-requires-8 : tie.Need-in-count-requires-8
 in-count-requires-8 c κs = search needs
 
-array-read-has-term-7 : tie.Need-array-read-has-term-7
-array-read-has-term-7 c = search needs
-
-array-read-has-term-8 : tie.Need-array-read-has-term-8
-array-read-has-term-8 c = search needs
-
 has-term-requires-4 : tie.Need-has-term-requires-4
 has-term-requires-4 c κs = search needs
 
-array-read-in-count-9 : tie.Need-array-read-in-count-9
-array-read-in-count-9 c = search needs
-
 in-count-requires-9 : tie.Need-in-count-requires-9
 in-count-requires-9 c κs = search needs
-
-array-read-has-term-9 : tie.Need-array-read-has-term-9
-array-read-has-term-9 c = search needs
-
-array-read-has-term-10 : tie.Need-array-read-has-term-10
-array-read-has-term-10 c = search needs
 
 has-term-requires-5 : tie.Need-has-term-requires-5
 has-term-requires-5 c κs = search needs
@@ -160,43 +106,25 @@ pub has-range-spec : {M : Type 1} → statement M
 has-range-spec =
     tie.close
     (tie.spec
+    array-read-a
+    array-read-b
+    array-read-c
+    array-read-d
+    array-read-e
     array-read-match
-    array-read-result
-    array-read-result-2
-    array-read-in-count
     in-count-requires
-    array-read-in-count-2
     in-count-requires-2
-    array-read-result-3
-    array-read-result-4
-    array-read-in-count-3
     in-count-requires-3
-    array-read-has-term
-    array-read-has-term-2
     has-term-requires
-    array-read-in-count-4
     in-count-requires-4
-    array-read-has-term-3
-    array-read-has-term-4
     has-term-requires-2
-    array-read-in-count-5
     in-count-requires-5
-    array-read-in-count-6
     in-count-requires-6
-    array-read-in-count-7
     in-count-requires-7
-    array-read-has-term-5
-    array-read-has-term-6
     has-term-requires-3
-    array-read-in-count-8
     in-count-requires-8
-    array-read-has-term-7
-    array-read-has-term-8
     has-term-requires-4
-    array-read-in-count-9
     in-count-requires-9
-    array-read-has-term-9
-    array-read-has-term-10
     has-term-requires-5
     returns
     returns-2

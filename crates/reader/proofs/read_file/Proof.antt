@@ -34,8 +34,8 @@ returns-2 c =
     let g = c .before .at-end in
     let begun : Read = record { progress = a .p; form = blankForm } in
     let e =
-        read-accepted tableRules (a .file) (a .limit) begun (a .s .now) (reading (d .result) (d .last .1 .1 .0)) (c .before .before .before .before .before .before .before .if1 .left) (d .ensures .0)
-        (g .result) (g .ensures ∙ ap (verdict (d .result .lines)) (c .before .before .is-complete .ensures)) (c .if2 .taken) in
+    read-accepted tableRules (a .file) (a .limit) begun (a .s .now) (reading (d .result) (d .last .1 .1 .0)) (c .before .before .before .before .before .before .before .if1 .left) (d .ensures .0)
+    (g .result) (g .ensures ∙ ap (verdict (d .result .lines)) (c .before .before .is-complete .ensures)) (c .if2 .taken) in
     (rw e, rw e)
 
 add-t16 : tie.Need-add-t16
@@ -48,8 +48,8 @@ returns-3 c =
     let g = c .before .before .at-end in
     let begun : Read = record { progress = a .p; form = blankForm } in
     let e =
-        read-refused tableRules (a .file) (a .limit) begun (a .s .now) (reading (d .result) (d .last .1 .1 .0)) (c .before .before .before .before .before .before .before .before .if1 .left) (d .ensures .0)
-        (g .result) (g .ensures ∙ ap (verdict (d .result .lines)) (c .before .before .before .is-complete .ensures)) (c .before .if2 .left) in
+    read-refused tableRules (a .file) (a .limit) begun (a .s .now) (reading (d .result) (d .last .1 .1 .0)) (c .before .before .before .before .before .before .before .before .if1 .left) (d .ensures .0)
+    (g .result) (g .ensures ∙ ap (verdict (d .result .lines)) (c .before .before .before .is-complete .ensures)) (c .before .if2 .left) in
     (rw e, rw e)
 
 pub read-file-spec : {M : Type 1} → statement M
