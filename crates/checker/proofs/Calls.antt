@@ -1,7 +1,7 @@
 -- The replies of the calls on contents, classes and matrices, from what their tests and the catalogue's functions say.
 -- Assumes nothing.
 use Prim.Native.Nat.{ℕ, _*_, _≤_, _<_}
-use mathlib.Core.Bool.{Bool, _&&_}
+use mathlib.Core.Bool.{Bool, true, false, _&&_}
 use mathlib.Core.List.{List, [], _∷_, _++_}
 use mathlib.Core.Option.{Option, none, some}
 use mathlib.Core.Path.{_≡_, refl, sym, ap, ap₂, _∙_, subst}
@@ -20,8 +20,8 @@ use Rattle.catalogue.specs.Matrices.{found}
 use Rattle.catalogue.specs.declared.Found.the-variants.{Class, NoClass}
 use Rattle.catalogue.proofs.Buffers.{padded-front}
 use Rattle.catalogue.proofs.Complete.{lists-legal}
-use Rattle.checker.specs.declared.Number.the-variants.{Is}
-use Rattle.checker.specs.declared.Written.the-variants.{Done}
+use Rattle.checker.specs.declared.Number.the-variants.{Refused as noNumber, Is}
+use Rattle.checker.specs.declared.Written.the-variants.{Refused as notWritten, Done}
 use Rattle.checker.specs.Refusals.{firstOf, buffer, size, order, range, noClass, doneUnless}
 use Rattle.checker.specs.Counts.{classOfReply, listOf, contentsOfRefusal, contentsOfOut, matrixOfRefusal, matrixOfOut, listFound, contentsOfMatrixRefusal, contentsOfMatrixOut, matrixOfClassRefusal, matrixOfClassOut, classOfMatrixReply}
 use Rattle.checker.proofs.Tests.{both}

@@ -1,17 +1,19 @@
 -- The contents given back for a class of a table, from the labels that its form and its class list hold.
 -- Assumes nothing.
-use Prim.Native.Nat.{ℕ, _+_, _*_, _≤_, _<_}
-use mathlib.Core.List.{List, [], _∷_, List·Memᴰ}
-use mathlib.Core.Path.{_≡_, sym, ap, _∙_, subst⁻¹}
+use Prim.Native.Nat.{ℕ, zero, suc, _+_, _*_, _≤_, _<_}
+use mathlib.Core.List.{List, [], _∷_, map, List·Memᴰ}
+use mathlib.Core.Path.{_≡_, refl, sym, ap, _∙_, subst⁻¹}
 use native.Mathlib.Omega.{arith}
 use lib.ListN.{length, getD, take}
+use Rattle.graphs.specs.Lists.{upFrom}
 use Rattle.graphs.proofs.Lists.{getD-mem}
 use Rattle.classes.specs.Classes.{Legal, contents}
 use Rattle.classes.proofs.Catalogue.{lists-mem}
 use Rattle.automata.specs.WellFormed.{constantCount}
 use Rattle.automata.specs.Configurations.{classes}
 use Rattle.forms.specs.TableForm.{cell, automatonOf}
-use Rattle.forms.proofs.Forms.{constant-count}
+use Rattle.forms.specs.Readable.{Readable}
+use Rattle.forms.proofs.Forms.{form-limits, constant-count}
 use Rattle.forms.specs.ClassLabels.{Lent}
 use Rattle.forms.proofs.Accessors.{values-are}
 use Rattle.lists.specs.Arrays.{padded}
