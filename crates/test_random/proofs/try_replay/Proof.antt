@@ -46,8 +46,8 @@ told-requires-3 c κs = search needs
 came-requires-3 : tie.Need-came-requires-3
 came-requires-3 c κs = search needs
 
-enum-known-number : tie.Need-enum-known-number
-enum-known-number c = search needs
+enum-known-r : tie.Need-enum-known-r
+enum-known-r c = search needs
 
 same-refusal-requires : tie.Need-same-refusal-requires
 same-refusal-requires c κs = search needs
@@ -79,7 +79,7 @@ try-replay-spec =
     told-requires-2
     told-requires-3
     came-requires-3
-    enum-known-number
+    enum-known-r
     same-refusal-requires
     came-requires-4
     returns-2
