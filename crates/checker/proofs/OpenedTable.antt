@@ -1,13 +1,10 @@
 -- What a call has of a table once `open_table` has told it the outcome.
 -- Assumes nothing.
-use Prim.Native.Nat.{ℕ, zero, suc, _+_, _-_, _<_}
+use Prim.Native.Nat.{ℕ}
 use mathlib.Core.List.{List}
-use mathlib.Core.Logic.{by-cases}
-use mathlib.Core.Path.{_≡_, refl, sym, ap, _∙_, subst}
-use native.Mathlib.Decide.{decLt}
+use mathlib.Core.Path.{_≡_, refl, sym, ap, _∙_}
 use native.Mathlib.Omega.{arith}
-use lib.ListN.{length, getD, drop, replicate, length-replicate}
-use lib.Seq.{getD-append-add, getD-drop}
+use lib.ListN.{length, replicate, length-replicate}
 use Rattle.automata.specs.Configurations.{classes}
 use Rattle.forms.specs.TableForm.{cell, automatonOf}
 use Rattle.refusals.specs.declared.Refusal.{Refusal}
@@ -18,8 +15,8 @@ use Rattle.reader.specs.declared.Reply.{Reply}
 use Rattle.reader.specs.declared.Reply.the-variants.{Accepted, Refused}
 use Rattle.forms.specs.Readable.{Readable}
 use Rattle.catalogue.specs.Serving.{labelRows}
-use Rattle.catalogue.proofs.LabelRows.{label-rows-small, label-rows-length}
-use Rattle.lists.proofs.Arrays.{written-entry, written-length}
+use Rattle.catalogue.proofs.LabelRows.{label-rows-length}
+use Rattle.lists.proofs.Arrays.{written-length}
 use Rattle.opening.specs.Opening.{openTable, labelsOf, classLabels}
 use Rattle.opening.proofs.Opened.{opened-readable}
 use Rattle.opening.proofs.Labels.{counts-few, labels-held, classes-most}
@@ -32,24 +29,6 @@ pub record Opened (s t cat : List ℕ) : Type 0 where
   pub lent : Lent t cat (length (classes (automatonOf t)))
   pub held : Labels (automatonOf t) cat
   pub long : length cat ≡ 3370
-
-zeros : (n i : ℕ) → getD {A = ℕ} (replicate n 0) i 0 ≡ 0
-zeros zero i = refl
-zeros (suc n) zero = refl
-zeros (suc n) (suc i) = zeros n i
-
-labels-small : (t : List ℕ) → Readable t → (i : ℕ) → getD (classLabels t) i 0 < 8
-labels-small t r i =
-    let (few, low) = counts-few t r in
-    let rows : List ℕ = labelRows (cell t 0 1) (cell t 0 2) in
-    by-cases (decLt i (length rows))
-    (λ h. subst (λ n. n < 8) (sym (written-entry rows (replicate 3370 0) i h)) (label-rows-small (cell t 0 1) (cell t 0 2) few low i))
-    (λ h.
-    let e : i ≡ length rows + (i - length rows) = omega arith in
-    let z : getD (classLabels t) i 0 ≡ 0 =
-    ap (λ j. getD (classLabels t) j 0) e ∙ getD-append-add rows (drop (length rows) (replicate 3370 0)) (i - length rows) 0
-    ∙ getD-drop (length rows) (replicate 3370 0) (i - length rows) 0 ∙ zeros 3370 (length rows + (i - length rows)) in
-    omega arith)
 
 labels-long : (t : List ℕ) → Readable t → length (classLabels t) ≡ 3370
 labels-long t r =
@@ -71,7 +50,7 @@ told-opened s t v cat w q e f l a = go (openTable s) refl (sym e ∙ a) f l
         record {
           outcome = outcome;
           readable = readable;
-          lent = record { readable = readable; labels = record { long = held .long; each = held .each; small = λ i. subst (λ c. getD c i 0 < 8) (sym same) (labels-small t readable i) }; count = refl };
+          lent = record { readable = readable; labels = held; count = refl };
           held = held;
           long = ap length same ∙ labels-long t readable;
         }
