@@ -5,7 +5,7 @@ use mathlib.Core.Bool.{Bool, true, false}
 use mathlib.Core.List.{List}
 use mathlib.Core.Logic._⊎_.{inl, inr}
 use mathlib.Core.Logic.{_⊎_}
-use mathlib.Core.Path.{_≡_, ap}
+use mathlib.Core.Path.{_≡_, ap, subst}
 use native.Mathlib.Omega.{arith}
 use Rattle.refusals.specs.declared.Refusal.{Refusal}
 use Rattle.refusals.specs.Judged.{Judged, refusal, _then_, require}
@@ -14,8 +14,10 @@ use Rattle.refusals.proofs.Composed.{then-refused}
 use Rattle.automata.specs.WellFormed.{constantCount}
 use Rattle.forms.specs.TableForm.{automatonOf}
 use Rattle.reader.specs.Table.{readTable, readTarget}
-use Rattle.reader.proofs.TableNumbers.{table-number, target-number}
-use Rattle.questions.proofs.QuestionNumbers.{question-number}
+use Rattle.reader.specs.TableRules.{atStart}
+use Rattle.fields.proofs.LineFiles.{Numbered}
+use Rattle.reader.proofs.Outcomes.{form-numbers}
+use Rattle.questions.proofs.Outcomes.{question-numbers}
 use Rattle.conditions.specs.Startable.{startable}
 use Rattle.opening.specs.Opening.{openTable, withStart}
 use Rattle.checker.specs.Files.{withTarget, withQuestion, questionTo, targetFiles, questionFiles}
@@ -30,6 +32,10 @@ low-then {A = A} j next f g r e = go (then-refused j next r e)
     go : (j ≡ refused r) ⊎ ((x : A) × (j ≡ accepted x) × (next x ≡ refused r)) → r .number ≤ 10
     go (inl d) = f r d
     go (inr (x, d, h)) = g x r h
+
+-- of a file that is read
+low-file : {A : Type 0} (j : Judged A) → Numbered (λ x. x ≤ 10) j → (r : Refusal) → j ≡ refused r → r .number ≤ 10
+low-file j h r e = subst (Numbered (λ x. x ≤ 10)) e h
 
 never : {A : Type 0} (x : A) (r : Refusal) → accepted x ≡ refused r → r .number ≤ 10
 never x r e = let z : _≡_ {A = ℕ} 0 1 = cc in absurd (omega arith)
@@ -46,14 +52,14 @@ start-low t = low-then (require (startable (automatonOf t)) (refusal 7 1 0)) (λ
 
 open-low : (s : List ℕ) (r : Refusal) → openTable s ≡ refused r → r .number ≤ 10
 unfolding openTable
-open-low s = low-then (readTable s) withStart (table-number s) start-low
+open-low s = low-then (readTable s) withStart (low-file (readTable s) (form-numbers 1 40000 atStart s)) start-low
 
 pub target-files-low : (s g : List ℕ) (r : Refusal) → targetFiles s g ≡ refused r → r .number ≤ 10
 target-files-low s g =
-    low-then (openTable s) (target-after g) (open-low s) (λ t. low-then (readTarget t g) (λ u. accepted (withTarget t u)) (target-number t g) (λ u r. never (withTarget t u) r))
+    low-then (openTable s) (target-after g) (open-low s) (λ t. low-then (readTarget t g) (λ u. accepted (withTarget t u)) (low-file (readTarget t g) (form-numbers 2 309 _ g)) (λ u r. never (withTarget t u) r))
 
 pub question-files-low : (s q : List ℕ) (r : Refusal) → questionFiles s q ≡ refused r → r .number ≤ 10
 question-files-low s q =
     low-then (openTable s) (question-after q) (open-low s)
-    (λ t. low-then (questionTo (automatonOf t) q) (λ w. accepted (withQuestion t w)) (question-number (automatonOf t .registers) (constantCount (automatonOf t)) (automatonOf t .locations) q)
+    (λ t. low-then (questionTo (automatonOf t) q) (λ w. accepted (withQuestion t w)) (low-file (questionTo (automatonOf t) q) (question-numbers (automatonOf t .registers) (constantCount (automatonOf t)) (automatonOf t .locations) q))
     (λ w r. never (withQuestion t w) r))
