@@ -6,7 +6,7 @@ use mathlib.Core.Path.{_≡_, refl, sym, ap, _∙_}
 use native.Mathlib.Omega.{arith}
 use lib.ListN.{length, replicate, length-replicate}
 use Rattle.automata.specs.Configurations.{classes}
-use Rattle.forms.specs.TableForm.{cell, automatonOf}
+use Rattle.forms.specs.TableForm.{automatonOf}
 use Rattle.refusals.specs.declared.Refusal.{Refusal}
 use Rattle.refusals.specs.Judged.{Judged}
 use Rattle.refusals.specs.Judged.Judged.{accepted, refused}
@@ -19,7 +19,9 @@ use Rattle.catalogue.proofs.LabelRows.{label-rows-length}
 use Rattle.lists.proofs.Arrays.{written-length}
 use Rattle.opening.specs.Opening.{openTable, labelsOf, classLabels}
 use Rattle.opening.proofs.Opened.{opened-readable}
-use Rattle.opening.proofs.Labels.{counts-few, labels-held, classes-most}
+use Rattle.opening.proofs.Labels.{counts-few, labels-held}
+use Rattle.automata.specs.WellFormed.{constantCount}
+use Rattle.forms.proofs.Lent.{classes-few}
 use Rattle.forms.specs.ClassLabels.{Labels, Lent}
 
 -- the table of these bytes has the form t, and the labels of its classes are cat
@@ -32,11 +34,10 @@ pub record Opened (s t cat : List ℕ) : Type 0 where
 
 labels-long : (t : List ℕ) → Readable t → length (classLabels t) ≡ 3370
 labels-long t r =
-    let (few, low) = counts-few t r in
-    let q : ℕ = cell t 0 1 in
-    let k : ℕ = cell t 0 2 in
+    let q : ℕ = automatonOf t .registers in
+    let k : ℕ = constantCount (automatonOf t) in
     let z : length (replicate {A = ℕ} 3370 0) ≡ 3370 = length-replicate {0} {A = ℕ} 3370 0 in
-    written-length (labelRows q k) (replicate 3370 0) (omega (arith, label-rows-length q k few, classes-most q k few low, z)) ∙ z
+    written-length (labelRows q k) (replicate 3370 0) (omega (arith, label-rows-length q k (counts-few t r .0), classes-few t r, z)) ∙ z
 
 pub told-opened : (s t v cat w : List ℕ) (q : Reply) → q ≡ replyOf (openTable s) → t ≡ formOf (openTable s) v → cat ≡ labelsOf (openTable s) w → q ≡ Accepted → Opened s t cat
 told-opened s t v cat w q e f l a = go (openTable s) refl (sym e ∙ a) f l

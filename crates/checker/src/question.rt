@@ -86,7 +86,7 @@ pub fn ask(table: &[u8], question: &[u8], rows: &mut [u32], contents: &mut [u32;
             line: 0,
         });
     }
-    let mut form = [0u32; 5544];
+    let mut form = [0u32; forms::LENGTH];
     let mut labels = [0u8; 3370];
     let opened = opening::open_table(table, &mut form, &mut labels);
     match opened {

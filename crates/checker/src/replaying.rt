@@ -41,7 +41,7 @@ pub fn replay(table: &[u8], run: &[u32]) -> Replayed
             line: 0,
         });
     }
-    let mut form = [0u32; 5544];
+    let mut form = [0u32; forms::LENGTH];
     let mut labels = [0u8; 3370];
     let reply = opening::open_table(table, &mut form, &mut labels);
     match reply {
@@ -53,7 +53,7 @@ pub fn replay(table: &[u8], run: &[u32]) -> Replayed
 fn opening(table: &[u8]) -> Opened
     ensures { λ r. ⌜ r ≡ openedOf (openTable (now (table .entry))) ⌝ }
 {
-    let mut form = [0u32; 5544];
+    let mut form = [0u32; forms::LENGTH];
     let mut labels = [0u8; 3370];
     let reply = opening::open_table(table, &mut form, &mut labels);
     match reply {

@@ -1,16 +1,16 @@
 -- `lists n b` holds exactly the legal lists of n labels over b constants, in dictionary order, so that each has one number.
 -- Assumes nothing.
-use Prim.Native.Nat.{ℕ, zero, suc, _<_, max}
+use Prim.Native.Nat.{ℕ, zero, suc, _≤_, _<_, max}
 use mathlib.Core.Bool.{Bool, true, false, cond}
 use mathlib.Core.List.{List, [], _∷_, _++_, map, List·Memᴰ, List·Memᴰ·head, List·Memᴰ·tail, List·Memᴰ·cases-cons, List·Memᴰ·append-cases, Memᴰ·map, Memᴰ·of-map, flatMap}
 use mathlib.Core.Logic.{⊎-elim, inl, inr}
 use mathlib.Core.Path.{_≡_, refl, ap, subst, subst⁻¹}
 use native.Mathlib.Omega.{arith}
-use lib.Dec.{T}
+use lib.Dec.{T, leb, leb→le}
 use lib.ListN.{length, getD}
-use Rattle.graphs.specs.Lists.{upFrom, eqList, Dictionary}
+use Rattle.graphs.specs.Lists.{upFrom, eqList, allOf, Dictionary}
 use Rattle.graphs.proofs.Dictionary.{dictionary-irreflexive}
-use Rattle.graphs.proofs.Lists.{T-ext, eqList→eq, eqList-refl, getD-mem, mem-flatMap, flatMap-mem, mem-upFrom, upFrom-mem}
+use Rattle.graphs.proofs.Lists.{T-ext, allOf-mem, eqList→eq, eqList-refl, getD-mem, mem-flatMap, flatMap-mem, mem-upFrom, upFrom-mem}
 use Rattle.classes.specs.Classes.{lists, index, Legal, Ascending}
 
 pub mem-lists : (b : ℕ) (k : List ℕ) → Legal b k → List·Memᴰ k (lists (length k) b)
@@ -84,3 +84,13 @@ index-getD (l ∷ ls) (suc i) (before, a) h =
     let other : eqList l k ≡ false = T-ext (eqList l k) false
     (λ t. dictionary-irreflexive k (subst (λ x. Dictionary x k) (eqList→eq l k t) (before k (getD-mem ls i [] (omega arith))))) (λ t. absurd t) in
     rw other (ap suc (index-getD ls i a (omega arith)))
+
+-- no counts have more lists than five registers and two constants
+pub few-lists : (r c : ℕ) → r ≤ 5 → c ≤ 2 → length (lists r c) ≤ 674
+unfolding flatMap
+few-lists r c h k =
+    let test : T (allOf (λ x. allOf (λ y. leb (length (lists x y)) 674) (upFrom 0 3)) (upFrom 0 6)) = tt in
+    leb→le (length (lists r c)) 674
+    (allOf-mem (λ y. leb (length (lists r y)) 674) (upFrom 0 3)
+    (allOf-mem (λ x. allOf (λ y. leb (length (lists x y)) 674) (upFrom 0 3)) (upFrom 0 6) test (mem-upFrom 0 6 r (omega arith) (omega arith)))
+    (mem-upFrom 0 3 c (omega arith) (omega arith)))

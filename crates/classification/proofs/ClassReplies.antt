@@ -30,16 +30,6 @@ use Rattle.classification.specs.ClassTests.{testCounts, testLists, testR
 use Rattle.classification.specs.ClassCalls.{classCountFor, classFor, listOf, contentsFor, matrixFor, matrixContentsFor, classMatrixFor, matrixClassFor}
 use Rattle.classification.proofs.Passed.{both, told-refused, told-done, told-next, number-refused, number-is, write-refused, write-done, counts-pass, lists-pass, in-range, out-of-range}
 
--- no counts have more classes than five registers and two constants
-pub most-classes : (r c : ℕ) → r ≤ 5 → c ≤ 2 → length (lists r c) ≤ 674
-unfolding flatMap
-most-classes r c h k =
-    let test : T (allOf (λ x. allOf (λ y. leb (length (lists x y)) 674) (upFrom 0 3)) (upFrom 0 6)) = tt in
-    leb→le (length (lists r c)) 674
-    (allOf-mem (λ y. leb (length (lists r y)) 674) (upFrom 0 3)
-    (allOf-mem (λ x. allOf (λ y. leb (length (lists x y)) 674) (upFrom 0 3)) (upFrom 0 6) test (mem-upFrom 0 6 r (omega arith) (omega arith)))
-    (mem-upFrom 0 3 c (omega arith) (omega arith)))
-
 -- Class lists and contents in arrays
 
 module _ (r c k : ℕ) (few : r ≤ 5) (labels : List ℕ) (h : k < length (lists r c)) (e : labels ≡ padded 5 (listOf r c k)) where

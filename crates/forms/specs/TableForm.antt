@@ -27,6 +27,10 @@ constantRows = 1
 abbrev pub actionRows : ℕ
 actionRows = 3
 
+-- the row of the line 3 of an action, counted from 1
+abbrev pub arityRow : ℕ → ℕ
+arityRow action = 2 + action
+
 abbrev pub startRow : ℕ
 startRow = 19
 
@@ -42,6 +46,10 @@ guardRows i = 29 + 14 * i
 
 abbrev pub assignmentRows : ℕ → ℕ
 assignmentRows i = 37 + 14 * i
+
+-- the row of its line 8 of register r
+abbrev pub registerRow : ℕ → ℕ → ℕ
+registerRow i r = 36 + r + 14 * i
 
 -- the number in this row and column
 abbrev pub cell : List ℕ → ℕ → ℕ → ℕ

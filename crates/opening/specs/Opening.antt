@@ -5,7 +5,8 @@ use mathlib.Core.List.{List}
 use lib.ListN.{replicate}
 use Rattle.refusals.specs.Judged.{Judged, refusal, _then_, require, left}
 use Rattle.refusals.specs.Judged.Judged.{accepted}
-use Rattle.forms.specs.TableForm.{cell, automatonOf}
+use Rattle.automata.specs.WellFormed.{constantCount}
+use Rattle.forms.specs.TableForm.{automatonOf}
 use Rattle.reader.specs.Table.{readTable}
 use Rattle.lists.specs.Arrays.{written}
 use Rattle.catalogue.specs.Serving.{labelRows}
@@ -21,7 +22,7 @@ openTable s = readTable s then withStart
 
 -- the labels of all classes of a table, five to a class, in an array of 3,370
 abbrev pub classLabels : List ℕ → List ℕ
-classLabels t = written (labelRows (cell t 0 1) (cell t 0 2)) (replicate 3370 0)
+classLabels t = written (labelRows (automatonOf t .registers) (constantCount (automatonOf t))) (replicate 3370 0)
 
 -- a refusal leaves the labels as they were
 abbrev pub labelsOf : Judged (List ℕ) → List ℕ → List ℕ

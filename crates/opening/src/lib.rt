@@ -3,7 +3,8 @@
 ghost use mathlib.Core.Path.{_≡_};
 ghost use Prim.Native.Nat.{_≤_};
 ghost use lib.ListN.{length};
-ghost use Rattle.forms.specs.TableForm.{cell, automatonOf};
+ghost use Rattle.automata.specs.WellFormed.{constantCount};
+ghost use Rattle.forms.specs.TableForm.{automatonOf};
 ghost use Rattle.reader.specs.TableReply.{replyOf, formOf};
 ghost use Rattle.forms.specs.Readable.{Readable};
 ghost use Rattle.lists.specs.Arrays.{written};
@@ -25,19 +26,13 @@ pub fn fill_classes(registers: usize, constants: usize, flat: &mut [u8])
     catalogue::fill_labels(&table, &rows, registers, constants, flat);
 }
 
-fn wide(n: u32) -> usize
-    ensures { λ r. ⌜ r ≡ n ⌝ }
-{
-    n as usize
-}
-
 // Writes the labels of a table's classes, and says whether one of them is a start.
 pub fn classes_start(form: &[u32], flat: &mut [u8]) -> bool
     requires { ⌜ Readable (now form) × (length (now flat) ≡ 3370) ⌝ }
-    ensures { λ r. ⌜ (r ≡ startable (automatonOf (now (form .entry)))) × (now (flat .exit) ≡ written (labelRows (cell (now (form .entry)) 0 1) (cell (now (form .entry)) 0 2)) (now (flat .entry))) ⌝ }
+    ensures { λ r. ⌜ (r ≡ startable (automatonOf (now (form .entry)))) × (now (flat .exit) ≡ written (labelRows (automatonOf (now (form .entry)) .registers) (constantCount (automatonOf (now (form .entry))))) (now (flat .entry))) ⌝ }
 {
-    let registers = wide(form[1]);
-    let constants = wide(form[2]);
+    let registers = forms::registers(form);
+    let constants = forms::constants(form);
     fill_classes(registers, constants, flat);
     let n = catalogue::class_count(registers, constants);
     conditions::has_start(form, flat, n)
@@ -47,7 +42,7 @@ pub fn classes_start(form: &[u32], flat: &mut [u8]) -> bool
 pub fn open_table(s: &[u8], form: &mut Form, labels: &mut [u8; 3370]) -> Reply
     ensures { λ r. ⌜ (r ≡ replyOf (openTable (now (s .entry)))) × (now (form .exit) ≡ formOf (openTable (now (s .entry))) (now (form .entry))) × (now (labels .exit) ≡ labelsOf (openTable (now (s .entry))) (now (labels .entry))) ⌝ }
 {
-    let mut read = [0u32; 5544];
+    let mut read = [0u32; forms::LENGTH];
     let reply = reader::read_table(s, &mut read);
     if let Reply::Accepted = reply {
         let mut flat = [0u8; 3370];

@@ -23,7 +23,7 @@ use Rattle.questions.specs.Question.{Rows}
 use Rattle.forms.specs.Readable.{Readable}
 use Rattle.opening.specs.Opening.{openTable}
 use Rattle.opening.proofs.Opened.{opened-readable}
-use Rattle.opening.proofs.Labels.{classes-most, classes-are, counts-few}
+use Rattle.forms.proofs.Lent.{classes-few}
 use Rattle.witness.proofs.Finding.{few-steps}
 use Rattle.checker.specs.Files.{withTarget, withQuestion, questionTo, targetFiles, questionFiles, searchRoom, rowsRoom, reachFiles, askFiles}
 use Rattle.checker.specs.ReachReply.{foundReply, reachReply}
@@ -64,7 +64,7 @@ failing-low t r f = go (failing (automatonOf t) f) (least-is (failsAt (automaton
   where
     go : (o : Option ℕ) → Least (failsAt (automatonOf t) f) 0 (length (classes (automatonOf t))) o → classOf (askedReply (automatonOf t) o) ≤ 673
     go none h = omega arith
-    go (some k) h = let (few, low) = counts-few t r in omega (arith, h .1, ap length (classes-are t), classes-most (cell t 0 1) (cell t 0 2) few low)
+    go (some k) h = omega (arith, h .1, classes-few t r)
 
 question-low : (s q : List ℕ) → classOf (askReply (questionFiles s q)) ≤ 673
 unfolding askReply

@@ -1,6 +1,6 @@
 -- What holds of the progress and the form after every accepted line: the invariants behind `legal`.
 -- Assumes nothing.
-use Prim.Native.Nat.{ℕ, _+_, _*_, _-_, _≤_, _<_}
+use Prim.Native.Nat.{ℕ, suc, _+_, _*_, _-_, _≤_, _<_}
 use mathlib.Core.Bool.{Bool, true, false}
 use mathlib.Core.List.{List}
 use mathlib.Core.Logic.{_≢_, _⊎_, inl, inr}
@@ -12,7 +12,7 @@ use native.Mathlib.Omega.{arith}
 use lib.Dec.{leb, eqb}
 use lib.ListN.{length}
 use Rattle.reader.specs.declared.Progress.{Progress}
-use Rattle.forms.specs.TableForm.{cell}
+use Rattle.forms.specs.TableForm.{cell, assignmentRows, formLength, guardRows, registerRow, transitionRow}
 use Rattle.reader.specs.TableRules.{at, kindAt, put, advance, further, placed}
 use Rattle.reader.proofs.Accepted.{Inside, Stands, line1, line2, line3, line4, line5, line6, line7, line8}
 use Rattle.fields.proofs.Digits.{Low}
@@ -70,13 +70,13 @@ pub record Starting (r c conds stage : ℕ) (t : List ℕ) : Type 0 where
 
 -- the transitions: earlier ones, the one being read, and no line after it
 pub record Moves (r c l m transition params conds stage : ℕ) (t : List ℕ) : Type 0 where
-  pub fresh : (x : ℕ) → 28 + 14 * transition ≤ x → cell t x 0 ≡ 0
+  pub fresh : (x : ℕ) → transitionRow transition ≤ x → cell t x 0 ≡ 0
   pub done : (i : ℕ) → i + 1 < transition → (n q : ℕ) × TransitionRows r c l m t i n q
   pub current : (i : ℕ) → i + 1 ≡ transition → (n : ℕ) × TransitionRows r c l m t i n params × (stage ≤ 5 → n ≡ conds)
 
 pub record Sound (p : Progress) (t : List ℕ) : Type 0 where
   pub counted : Counted p
-  pub size : length t ≡ 5544
+  pub size : length t ≡ formLength
   pub low : Low t
   pub constants : Constants (p .ids) (p .newest) (p .stage) t
   pub arities : (i : ℕ) → i < p .acts → cell t (3 + i) 1 ≤ 3
@@ -139,56 +139,56 @@ module _ (t : List ℕ) (row : ℕ) (f : List ℕ) where
       }
 
   -- the parts of a transition whose rows, or some of them, stand elsewhere
-  arity-kept : (i m q : ℕ) → m ≤ 16 → 29 + 14 * i ≤ row → Inside m (cell t (28 + 14 * i) 2) → cell t (2 + cell t (28 + 14 * i) 2) 1 ≡ q
-      → cell (put t row f) (2 + cell (put t row f) (28 + 14 * i) 2) 1 ≡ q
+  arity-kept : (i m q : ℕ) → m ≤ 16 → guardRows i ≤ row → Inside m (cell t (transitionRow i) 2) → cell t (2 + cell t (transitionRow i) 2) 1 ≡ q
+      → cell (put t row f) (2 + cell (put t row f) (transitionRow i) 2) 1 ≡ q
   arity-kept i m q h k a e =
-      kept (λ x. cell (put t row f) (2 + at x 2) 1 ≡ q) t row f (28 + 14 * i) (omega arith)
-      (kept (λ x. at x 1 ≡ q) t row f (2 + cell t (28 + 14 * i) 2) (omega arith) e)
+      kept (λ x. cell (put t row f) (2 + at x 2) 1 ≡ q) t row f (transitionRow i) (omega arith)
+      (kept (λ x. at x 1 ≡ q) t row f (2 + cell t (transitionRow i) 2) (omega arith) e)
 
   assigned-kept : (r q c j x : ℕ) → x ≢ row → (cell t x 0 ≡ 0) ⊎ AssignmentRow r q c j (rowAt t x)
       → (cell (put t row f) x 0 ≡ 0) ⊎ AssignmentRow r q c j (rowAt (put t row f) x)
   assigned-kept r q c j x w s = kept (λ y. (at y 0 ≡ 0) ⊎ AssignmentRow r q c j y) t row f x w s
 
-  rows-kept : (r c l m i n q : ℕ) → m ≤ 16 → 42 + 14 * i ≤ row → TransitionRows r c l m t i n q → TransitionRows r c l m (put t row f) i n q
+  rows-kept : (r c l m i n q : ℕ) → m ≤ 16 → transitionRow (suc i) ≤ row → TransitionRows r c l m t i n q → TransitionRows r c l m (put t row f) i n q
   rows-kept r c l m i n q h w s =
       record {
-        head = kept (HeadRow l m) t row f (28 + 14 * i) (omega arith) (s .head);
+        head = kept (HeadRow l m) t row f (transitionRow i) (omega arith) (s .head);
         arity = arity-kept i m q h (omega arith) (s .head .action) (s .arity);
-        guard = guarded-kept r q c (29 + 14 * i) n (λ j k. omega arith) (s .guard);
-        assigns = λ j k. assigned-kept r q c j (36 + j + 14 * i) (omega arith) (s .assigns j k);
+        guard = guarded-kept r q c (guardRows i) n (λ j k. omega arith) (s .guard);
+        assigns = λ j k. assigned-kept r q c j (registerRow i j) (omega arith) (s .assigns j k);
       }
 
   -- one condition more of a transition
-  rows-guard : (r c l m i n q : ℕ) → m ≤ 16 → row ≡ 29 + 14 * i + n → 6 * row + 5 < length t → n < 8 → ConditionRow r q c (six f)
+  rows-guard : (r c l m i n q : ℕ) → m ≤ 16 → row ≡ guardRows i + n → 6 * row + 5 < length t → n < 8 → ConditionRow r q c (six f)
       → TransitionRows r c l m t i n q → TransitionRows r c l m (put t row f) i (n + 1) q
   rows-guard r c l m i n q h e w k new s =
       record {
-        head = kept (HeadRow l m) t row f (28 + 14 * i) (omega arith) (s .head);
+        head = kept (HeadRow l m) t row f (transitionRow i) (omega arith) (s .head);
         arity = arity-kept i m q h (omega arith) (s .head .action) (s .arity);
-        guard = guarded-more r q c (29 + 14 * i) n e w k new (s .guard);
-        assigns = λ j u. assigned-kept r q c j (36 + j + 14 * i) (omega arith) (s .assigns j u);
+        guard = guarded-more r q c (guardRows i) n e w k new (s .guard);
+        assigns = λ j u. assigned-kept r q c j (registerRow i j) (omega arith) (s .assigns j u);
       }
 
   -- one assignment more of a transition, to register a
-  rows-assign : (r c l m i n q a : ℕ) → m ≤ 16 → row ≡ 36 + a + 14 * i → 6 * row + 5 < length t → 1 ≤ a → AssignmentRow r q c a (six f)
+  rows-assign : (r c l m i n q a : ℕ) → m ≤ 16 → row ≡ registerRow i a → 6 * row + 5 < length t → 1 ≤ a → AssignmentRow r q c a (six f)
       → TransitionRows r c l m t i n q → TransitionRows r c l m (put t row f) i n q
   rows-assign r c l m i n q a h e w k new s =
       record {
-        head = kept (HeadRow l m) t row f (28 + 14 * i) (omega arith) (s .head);
+        head = kept (HeadRow l m) t row f (transitionRow i) (omega arith) (s .head);
         arity = arity-kept i m q h (omega arith) (s .head .action) (s .arity);
-        guard = guarded-kept r q c (29 + 14 * i) n (λ j u. omega arith) (s .guard);
+        guard = guarded-kept r q c (guardRows i) n (λ j u. omega arith) (s .guard);
         assigns = λ j u. by j u (eqb j a) refl;
       }
     where
-      by : (j : ℕ) → Inside 5 j → (b : Bool) → eqb j a ≡ b → (cell (put t row f) (36 + j + 14 * i) 0 ≡ 0) ⊎ AssignmentRow r q c j (rowAt (put t row f) (36 + j + 14 * i))
+      by : (j : ℕ) → Inside 5 j → (b : Bool) → eqb j a ≡ b → (cell (put t row f) (registerRow i j) 0 ≡ 0) ⊎ AssignmentRow r q c j (rowAt (put t row f) (registerRow i j))
       by j u true z =
           let y : j ≡ a = eqb-true j a z in
-          inr (subst (λ x. AssignmentRow r q c x (rowAt (put t row f) (36 + x + 14 * i))) (sym y)
+          inr (subst (λ x. AssignmentRow r q c x (rowAt (put t row f) (registerRow i x))) (sym y)
           (subst (λ x. AssignmentRow r q c a (rowAt (put t row f) x)) e (written t row f w (AssignmentRow r q c a) new)))
-      by j u false z = assigned-kept r q c j (36 + j + 14 * i) (omega (arith, eqb-false j a z)) (s .assigns j u)
+      by j u false z = assigned-kept r q c j (registerRow i j) (omega (arith, eqb-false j a z)) (s .assigns j u)
 
   -- a line 6 begins a transition
-  moves-new : (r c l m tr params conds stage stage′ : ℕ) → m ≤ 16 → row ≡ 28 + 14 * tr → 6 * row + 5 < length t → HeadRow l m (six f)
+  moves-new : (r c l m tr params conds stage stage′ : ℕ) → m ≤ 16 → row ≡ transitionRow tr → 6 * row + 5 < length t → HeadRow l m (six f)
       → Moves r c l m tr params conds stage t → Moves r c l m (tr + 1) (cell t (2 + at f 2) 1) 0 stage′ (put t row f)
   moves-new r c l m tr params conds stage stage′ h e w new s =
       record {
@@ -206,7 +206,7 @@ module _ (t : List ℕ) (row : ℕ) (f : List ℕ) where
 
       first : (i : ℕ) → i ≡ tr → TransitionRows r c l m (put t row f) i 0 (cell t (2 + at f 2) 1)
       first i z =
-          let y : row ≡ 28 + 14 * i = omega arith in
+          let y : row ≡ transitionRow i = omega arith in
           record {
             head = subst (λ x. HeadRow l m (rowAt (put t row f) x)) y (written t row f w (HeadRow l m) new);
             arity = subst (λ x. cell (put t row f) (2 + cell (put t row f) x 2) 1 ≡ cell t (2 + at f 2) 1) y
@@ -215,13 +215,13 @@ module _ (t : List ℕ) (row : ℕ) (f : List ℕ) where
             guard = record {
               few = omega arith;
               each = λ j k. absurd (omega arith);
-              rest = λ j k u. kept (λ x. at x 0 ≡ 0) t row f (29 + 14 * i + j) (omega arith) (s .fresh (29 + 14 * i + j) (omega arith));
+              rest = λ j k u. kept (λ x. at x 0 ≡ 0) t row f (guardRows i + j) (omega arith) (s .fresh (guardRows i + j) (omega arith));
             };
-            assigns = λ j k. inl (kept (λ x. at x 0 ≡ 0) t row f (36 + j + 14 * i) (omega arith) (s .fresh (36 + j + 14 * i) (omega arith)));
+            assigns = λ j k. inl (kept (λ x. at x 0 ≡ 0) t row f (registerRow i j) (omega arith) (s .fresh (registerRow i j) (omega arith)));
           }
 
   -- a line 7 or 8 belongs to the transition being read
-  moves-within : (r c l m tr params conds conds′ stage stage′ : ℕ) → m ≤ 16 → 14 + 14 * tr ≤ row → row < 28 + 14 * tr
+  moves-within : (r c l m tr params conds conds′ stage stage′ : ℕ) → m ≤ 16 → transitionRow tr ≤ 14 + row → row < transitionRow tr
       → ((i n : ℕ) → i + 1 ≡ tr → (stage ≤ 5 → n ≡ conds) → TransitionRows r c l m t i n params → (n′ : ℕ) × TransitionRows r c l m (put t row f) i n′ params × (stage′ ≤ 5 → n′ ≡ conds′))
       → Moves r c l m tr params conds stage t → Moves r c l m tr params conds′ stage′ (put t row f)
   moves-within r c l m tr params conds conds′ stage stage′ h v w new s =
@@ -256,9 +256,9 @@ module _ (p : Progress) (f t : List ℕ) (s : Sound p t) where
   constants-step (line3 k g h i j m) = rw k (constants-kept t (3 + p .acts) f _ _ _ _ _ (omega arith) (omega arith) (s .constants))
   constants-step (line4 k h i j) = rw k (constants-kept t 19 f _ _ _ _ _ (omega arith) (omega arith) (s .constants))
   constants-step (line5 k h j b c d) = rw k (constants-kept t (20 + p .conds) f _ _ _ _ _ (omega arith) (omega arith) (s .constants))
-  constants-step (line6 k h i b c d) = rw k (constants-kept t (28 + 14 * p .transition) f _ _ _ _ _ (omega arith) (omega arith) (s .constants))
-  constants-step (line7 k h j b c d) = rw k (constants-kept t (29 + 14 * p .place + p .conds) f _ _ _ _ _ (omega arith) (omega arith) (s .constants))
-  constants-step (line8 k h b c) = rw k (constants-kept t (37 + 14 * p .place + at f 1 - 1) f _ _ _ _ _ (omega arith) (omega arith) (s .constants))
+  constants-step (line6 k h i b c d) = rw k (constants-kept t (transitionRow (p .transition)) f _ _ _ _ _ (omega arith) (omega arith) (s .constants))
+  constants-step (line7 k h j b c d) = rw k (constants-kept t (guardRows (p .place) + p .conds) f _ _ _ _ _ (omega arith) (omega arith) (s .constants))
+  constants-step (line8 k h b c) = rw k (constants-kept t (assignmentRows (p .place) + at f 1 - 1) f _ _ _ _ _ (omega arith) (omega arith) (s .constants))
 
   arities-step : Stands p f → (i : ℕ) → i < further p f t .acts → cell (placed p f t) (3 + i) 1 ≤ 3
   unfolding advance kindAt
@@ -272,9 +272,9 @@ module _ (p : Progress) (f t : List ℕ) (s : Sound p t) where
       (written t (3 + p .acts) f w (λ x. at x 1 ≤ 3) m))
   arities-step (line4 k h i j) = rw k (arities-kept t 19 f (p .acts) (λ x y. omega (arith, n .acts-low, n .actions-low)) (s .arities))
   arities-step (line5 k h j b c d) = rw k (arities-kept t (20 + p .conds) f (p .acts) (λ x y. omega (arith, n .acts-low, n .actions-low)) (s .arities))
-  arities-step (line6 k h i b c d) = rw k (arities-kept t (28 + 14 * p .transition) f (p .acts) (λ x y. omega (arith, n .acts-low, n .actions-low)) (s .arities))
-  arities-step (line7 k h j b c d) = rw k (arities-kept t (29 + 14 * p .place + p .conds) f (p .acts) (λ x y. omega (arith, n .acts-low, n .actions-low)) (s .arities))
-  arities-step (line8 k h b c) = rw k (arities-kept t (37 + 14 * p .place + at f 1 - 1) f (p .acts) (λ x y. omega (arith, n .acts-low, n .actions-low)) (s .arities))
+  arities-step (line6 k h i b c d) = rw k (arities-kept t (transitionRow (p .transition)) f (p .acts) (λ x y. omega (arith, n .acts-low, n .actions-low)) (s .arities))
+  arities-step (line7 k h j b c d) = rw k (arities-kept t (guardRows (p .place) + p .conds) f (p .acts) (λ x y. omega (arith, n .acts-low, n .actions-low)) (s .arities))
+  arities-step (line8 k h b c) = rw k (arities-kept t (assignmentRows (p .place) + at f 1 - 1) f (p .acts) (λ x y. omega (arith, n .acts-low, n .actions-low)) (s .arities))
 
   start-step : Stands p f → 4 ≤ further p f t .stage → Inside (further p f t .locations) (cell (placed p f t) 19 1)
   unfolding advance kindAt
@@ -283,9 +283,9 @@ module _ (p : Progress) (f t : List ℕ) (s : Sound p t) where
   start-step (line3 k g h i j m) = rw k (λ x. absurd (omega arith))
   start-step (line4 k h i j) = rw k (λ x. written t 19 f (omega (arith, s .size)) (λ y. Inside (p .locations) (at y 1)) j)
   start-step (line5 k h j b c d) = rw k (start-kept t (20 + p .conds) f _ _ 4 (omega arith) (λ x. omega arith) (s .start))
-  start-step (line6 k h i b c d) = rw k (start-kept t (28 + 14 * p .transition) f _ _ 5 (omega arith) (λ x. h) (s .start))
-  start-step (line7 k h j b c d) = rw k (start-kept t (29 + 14 * p .place + p .conds) f _ _ 5 (omega arith) (λ x. omega arith) (s .start))
-  start-step (line8 k h b c) = rw k (start-kept t (37 + 14 * p .place + at f 1 - 1) f _ _ 6 (omega arith) (λ x. omega arith) (s .start))
+  start-step (line6 k h i b c d) = rw k (start-kept t (transitionRow (p .transition)) f _ _ 5 (omega arith) (λ x. h) (s .start))
+  start-step (line7 k h j b c d) = rw k (start-kept t (guardRows (p .place) + p .conds) f _ _ 5 (omega arith) (λ x. omega arith) (s .start))
+  start-step (line8 k h b c) = rw k (start-kept t (assignmentRows (p .place) + at f 1 - 1) f _ _ 6 (omega arith) (λ x. omega arith) (s .start))
 
   starting-step : Stands p f → Starting (further p f t .registers) (further p f t .constants) (further p f t .conds) (further p f t .stage) (placed p f t)
   unfolding advance kindAt
@@ -316,9 +316,9 @@ module _ (p : Progress) (f t : List ℕ) (s : Sound p t) where
         starting = guarded-more t (20 + p .conds) f _ 0 _ 20 (s .starting .starts) (omega arith) w (omega arith)
             (record { kind = omega arith; left = rw z at b; relation = c; right = rw z at d }) (s .starting .starting);
       })
-  starting-step (line6 k h i b c d) = rw k (starting-kept t (28 + 14 * p .transition) f _ _ _ _ _ 5 (λ x y. omega arith) (λ x. absurd (omega arith)) (s .starting))
-  starting-step (line7 k h j b c d) = rw k (starting-kept t (29 + 14 * p .place + p .conds) f _ _ _ _ _ 5 (λ x y. omega arith) (λ x. absurd (omega arith)) (s .starting))
-  starting-step (line8 k h b c) = rw k (starting-kept t (37 + 14 * p .place + at f 1 - 1) f _ _ _ _ _ 6 (λ x y. omega arith) (λ x. absurd (omega arith)) (s .starting))
+  starting-step (line6 k h i b c d) = rw k (starting-kept t (transitionRow (p .transition)) f _ _ _ _ _ 5 (λ x y. omega arith) (λ x. absurd (omega arith)) (s .starting))
+  starting-step (line7 k h j b c d) = rw k (starting-kept t (guardRows (p .place) + p .conds) f _ _ _ _ _ 5 (λ x y. omega arith) (λ x. absurd (omega arith)) (s .starting))
+  starting-step (line8 k h b c) = rw k (starting-kept t (assignmentRows (p .place) + at f 1 - 1) f _ _ _ _ _ 6 (λ x y. omega arith) (λ x. absurd (omega arith)) (s .starting))
 
   moves-step : Stands p f → Moves (further p f t .registers) (further p f t .constants) (further p f t .locations) (further p f t .actions) (further p f t .transition) (further p f t .params)
       (further p f t .conds) (further p f t .stage) (placed p f t)
@@ -329,28 +329,28 @@ module _ (p : Progress) (f t : List ℕ) (s : Sound p t) where
   moves-step (line4 k h i j) = rw k (moves-early t 19 f _ _ _ _ _ _ _ _ _ _ _ _ _ _ 4 (n .early (omega arith) .1) (omega arith) (s .moves))
   moves-step (line5 k h j b c d) = rw k (moves-early t (20 + p .conds) f _ _ _ _ _ _ _ _ _ _ _ _ _ _ 4 (n .early (omega arith) .1) (omega arith) (s .moves))
   moves-step (line6 k h i b c d) =
-      let w : 6 * (28 + 14 * p .transition) + 5 < length t = omega (arith, s .size, n .transitions-low) in
-      rw k (moves-new t (28 + 14 * p .transition) f _ _ _ _ _ _ _ _ 5 (n .actions-low) refl w (record { from = b; action = c; to = d }) (s .moves))
+      let w : 6 * (transitionRow (p .transition)) + 5 < length t = omega (arith, s .size, n .transitions-low) in
+      rw k (moves-new t (transitionRow (p .transition)) f _ _ _ _ _ _ _ _ 5 (n .actions-low) refl w (record { from = b; action = c; to = d }) (s .moves))
   moves-step (line7 k h j b c d) =
       let a = n .late (omega arith) in
-      let w : 6 * (29 + 14 * p .place + p .conds) + 5 < length t = omega (arith, s .size, n .transitions-low, n .transition-low) in
+      let w : 6 * (guardRows (p .place) + p .conds) + 5 < length t = omega (arith, s .size, n .transitions-low, n .transition-low) in
       rw k
-      (moves-within t (29 + 14 * p .place + p .conds) f _ _ _ _ _ _ _ _ _ 5 (n .actions-low) (omega arith) (omega arith)
+      (moves-within t (guardRows (p .place) + p .conds) f _ _ _ _ _ _ _ _ _ 5 (n .actions-low) (omega arith) (omega arith)
       (λ x y e g v. let z : y ≡ p .conds = g (omega arith) in (
         y + 1,
-        rows-guard t (29 + 14 * p .place + p .conds) f _ _ _ _ x y _ (n .actions-low) (omega arith) w (omega arith)
+        rows-guard t (guardRows (p .place) + p .conds) f _ _ _ _ x y _ (n .actions-low) (omega arith) w (omega arith)
             (record { kind = omega arith; left = b; relation = c; right = d }) v,
         λ u. omega arith,
       ))
       (s .moves))
   moves-step (line8 k h b c) =
       let a = n .late h in
-      let w : 6 * (37 + 14 * p .place + at f 1 - 1) + 5 < length t = omega (arith, s .size, n .transitions-low, n .transition-low, n .registers-low) in
+      let w : 6 * (assignmentRows (p .place) + at f 1 - 1) + 5 < length t = omega (arith, s .size, n .transitions-low, n .transition-low, n .registers-low) in
       rw k
-      (moves-within t (37 + 14 * p .place + at f 1 - 1) f _ _ _ _ _ _ _ _ _ 6 (n .actions-low) (omega arith) (omega (arith, n .registers-low))
+      (moves-within t (assignmentRows (p .place) + at f 1 - 1) f _ _ _ _ _ _ _ _ _ 6 (n .actions-low) (omega arith) (omega (arith, n .registers-low))
       (λ x y e g v. (
         y,
-        rows-assign t (37 + 14 * p .place + at f 1 - 1) f _ _ _ _ x y _ (at f 1) (n .actions-low) (omega arith) w (b .0)
+        rows-assign t (assignmentRows (p .place) + at f 1 - 1) f _ _ _ _ x y _ (at f 1) (n .actions-low) (omega arith) w (b .0)
             (record { kind = omega arith; register = refl; known = b; source = c }) v,
         λ u. absurd (omega arith),
       ))
@@ -394,7 +394,7 @@ headed-kept r c l m n ids ids′ stage stage′ t row f h k s =
       passed = λ u. k u (s .passed);
     }
 
-pub headed-step : (p : Progress) (f t : List ℕ) → length t ≡ 5544 → HeadedBy p t → Stands p f → HeadedBy (further p f t) (placed p f t)
+pub headed-step : (p : Progress) (f t : List ℕ) → length t ≡ formLength → HeadedBy p t → Stands p f → HeadedBy (further p f t) (placed p f t)
 unfolding advance kindAt
 headed-step p f t z n (line1 k l b c d e g) =
     let w : 5 < length t = omega arith in
@@ -411,6 +411,6 @@ headed-step p f t z n (line2 k g h i j) = rw k (headed-kept _ _ _ _ _ _ _ _ 2 t 
 headed-step p f t z n (line3 k g h i j m) = rw k (headed-kept _ _ _ _ _ _ _ _ 3 t (3 + p .acts) f (omega arith) (λ x y. (omega arith, i)) n)
 headed-step p f t z n (line4 k h i j) = rw k (headed-kept _ _ _ _ _ _ _ _ 4 t 19 f (omega arith) (λ x y. y (omega arith)) n)
 headed-step p f t z n (line5 k h j b c d) = rw k (headed-kept _ _ _ _ _ _ _ _ 4 t (20 + p .conds) f (omega arith) (λ x y. y (omega arith)) n)
-headed-step p f t z n (line6 k h i b c d) = rw k (headed-kept _ _ _ _ _ _ _ _ 5 t (28 + 14 * p .transition) f (omega arith) (λ x y. y (omega arith)) n)
-headed-step p f t z n (line7 k h j b c d) = rw k (headed-kept _ _ _ _ _ _ _ _ 5 t (29 + 14 * p .place + p .conds) f (omega arith) (λ x y. y (omega arith)) n)
-headed-step p f t z n (line8 k h b c) = rw k (headed-kept _ _ _ _ _ _ _ _ 6 t (37 + 14 * p .place + at f 1 - 1) f (omega arith) (λ x y. y (omega arith)) n)
+headed-step p f t z n (line6 k h i b c d) = rw k (headed-kept _ _ _ _ _ _ _ _ 5 t (transitionRow (p .transition)) f (omega arith) (λ x y. y (omega arith)) n)
+headed-step p f t z n (line7 k h j b c d) = rw k (headed-kept _ _ _ _ _ _ _ _ 5 t (guardRows (p .place) + p .conds) f (omega arith) (λ x y. y (omega arith)) n)
+headed-step p f t z n (line8 k h b c) = rw k (headed-kept _ _ _ _ _ _ _ _ 6 t (assignmentRows (p .place) + at f 1 - 1) f (omega arith) (λ x y. y (omega arith)) n)

@@ -14,7 +14,7 @@ use Rattle.fields.specs.Format.{padded}
 use Rattle.fields.specs.LineFiles.{readFile}
 use Rattle.fields.proofs.Digits.{Low, low-zeros}
 use Rattle.fields.proofs.LineFiles.{file-keeps}
-use Rattle.forms.specs.TableForm.{cell}
+use Rattle.forms.specs.TableForm.{cell, formLength}
 use Rattle.reader.specs.declared.Progress.{Progress}
 use Rattle.reader.specs.TableRules.{at, kindAt, advance, further, placed, atStart, beforeTarget, complete}
 use Rattle.reader.specs.Table.{Read, tableRules, blankForm, readForm, readTable, readTarget}
@@ -59,18 +59,18 @@ blank-sound p n a b h =
     let y = n .early (omega arith) in
     record {
       counted = n;
-      size = length-replicate {A = ℕ} 5544 0;
-      low = low-zeros 5544;
+      size = length-replicate {A = ℕ} formLength 0;
+      low = low-zeros formLength;
       constants = record { second = λ e g. absurd (omega arith); rise = λ e. absurd (omega arith) };
       arities = λ i k. absurd (omega arith);
       start = λ k. absurd (omega arith);
       starting = record {
         starts = 0;
         counts = λ k. omega arith;
-        starting = record { few = omega arith; each = λ j k. absurd (omega arith); rest = λ j k l. zeros 5544 (6 * (20 + j) + 0) };
+        starting = record { few = omega arith; each = λ j k. absurd (omega arith); rest = λ j k l. zeros formLength (6 * (20 + j) + 0) };
       };
       moves = record {
-        fresh = λ z k. zeros 5544 (6 * z + 0);
+        fresh = λ z k. zeros formLength (6 * z + 0);
         done = λ i k. absurd (omega arith);
         current = λ i k. absurd (omega arith);
       };

@@ -5,7 +5,7 @@ use mathlib.Core.List.{List}
 use mathlib.Core.Logic.{_⊎_}
 use mathlib.Core.Path.{_≡_}
 use lib.ListN.{length}
-use Rattle.forms.specs.TableForm.{cell}
+use Rattle.forms.specs.TableForm.{cell, formLength, guardRows, registerRow, transitionRow, arityRow}
 use Rattle.reader.specs.TableRules.{at}
 use Rattle.reader.proofs.Accepted.{Inside, Named}
 use Rattle.reader.proofs.Rows.{rowAt}
@@ -38,16 +38,16 @@ pub record Guarded (r q c : ℕ) (t : List ℕ) (b n : ℕ) : Type 0 where
   pub each : (j : ℕ) → j < n → ConditionRow r q c (rowAt t (b + j))
   pub rest : (j : ℕ) → n ≤ j → j < 8 → cell t (b + j) 0 ≡ 0
 
--- the rows of transition i, counted from 0, with n conditions and q parameters; the line 8 of register j stands in row 36 + j + 14 i
+-- the rows of transition i, counted from 0, with n conditions and q parameters; the line 8 of register j stands in its row
 pub record TransitionRows (r c l m : ℕ) (t : List ℕ) (i n q : ℕ) : Type 0 where
-  pub head : HeadRow l m (rowAt t (28 + 14 * i))
-  pub arity : cell t (2 + cell t (28 + 14 * i) 2) 1 ≡ q
-  pub guard : Guarded r q c t (29 + 14 * i) n
-  pub assigns : (j : ℕ) → Inside 5 j → (cell t (36 + j + 14 * i) 0 ≡ 0) ⊎ AssignmentRow r q c j (rowAt t (36 + j + 14 * i))
+  pub head : HeadRow l m (rowAt t (transitionRow i))
+  pub arity : cell t (arityRow (cell t (transitionRow i) 2)) 1 ≡ q
+  pub guard : Guarded r q c t (guardRows i) n
+  pub assigns : (j : ℕ) → Inside 5 j → (cell t (registerRow i j) 0 ≡ 0) ⊎ AssignmentRow r q c j (rowAt t (registerRow i j))
 
 -- The form of a table that is read: sizes, counts and numbers
 pub record Legal (t : List ℕ) : Type 0 where
-  pub size : length t ≡ 5544
+  pub size : length t ≡ formLength
   pub low : (i : ℕ) → at t i < 1000000
   pub registers : cell t 0 1 ≤ 5
   pub constants : cell t 0 2 ≤ 2
@@ -63,7 +63,7 @@ pub record Legal (t : List ℕ) : Type 0 where
 
 -- the form of a target that is read, for r registers, c constants and l locations
 pub record LegalTarget (r c l : ℕ) (t : List ℕ) : Type 0 where
-  pub size : length t ≡ 5544
+  pub size : length t ≡ formLength
   pub low : (i : ℕ) → at t i < 1000000
   pub location : Inside l (cell t 19 1)
   pub conditions : ℕ

@@ -16,7 +16,7 @@ use Rattle.classes.specs.Renaming.{rising}
 use Rattle.automata.specs.Automaton.{Assignment, Automaton, arity}
 use Rattle.automata.specs.WellFormed.{inside, fitsTerm, fitsCondition, fitsAssignment, constantCount, fitsTransition, fitsConditions, wellFormed, limited, fitsTarget}
 use Rattle.refusals.specs.Judged.Judged.{accepted}
-use Rattle.forms.specs.TableForm.{cell, present, termOf, conditionAt, assignmentAt, transitionAt, automatonOf, targetOf}
+use Rattle.forms.specs.TableForm.{cell, present, termOf, conditionAt, assignmentAt, transitionAt, automatonOf, targetOf, assignmentRows, guardRows, registerRow, transitionRow}
 use Rattle.reader.specs.Table.{readTable, readTarget}
 use Rattle.reader.proofs.Accepted.{Inside, Named, aRegister, aParameter, aConstant}
 use Rattle.reader.proofs.Rows.{rowAt}
@@ -59,27 +59,27 @@ guard-fits r q c t b n g =
         differ (not (eqb (cell t x 0) 0)) e (holds-none t x (subst (λ y. cell t y 0 ≡ 0) w (g .rest (x - b) (ltb-false (x - b) n z) (omega arith))))
 
 -- the assignments in the five rows after row b
-module _ (r q c : ℕ) (t : List ℕ) (i : ℕ) (h : (j : ℕ) → Inside 5 j → (cell t (36 + j + 14 * i) 0 ≡ 0) ⊎ AssignmentRow r q c j (rowAt t (36 + j + 14 * i))) where
-  row-of : (x : ℕ) → 37 + 14 * i ≤ x → x < 37 + 14 * i + 5 → not (eqb (cell t x 0) 0) ≡ true → AssignmentRow r q c (x - (36 + 14 * i)) (rowAt t x)
-  row-of x u v e = subst (λ y. AssignmentRow r q c (x - (36 + 14 * i)) (rowAt t y)) w (by (h (x - (36 + 14 * i)) (omega arith)))
+module _ (r q c : ℕ) (t : List ℕ) (i : ℕ) (h : (j : ℕ) → Inside 5 j → (cell t (registerRow i j) 0 ≡ 0) ⊎ AssignmentRow r q c j (rowAt t (registerRow i j))) where
+  row-of : (x : ℕ) → assignmentRows i ≤ x → x < assignmentRows i + 5 → not (eqb (cell t x 0) 0) ≡ true → AssignmentRow r q c (x - (assignmentRows i - 1)) (rowAt t x)
+  row-of x u v e = subst (λ y. AssignmentRow r q c (x - (assignmentRows i - 1)) (rowAt t y)) w (by (h (x - (assignmentRows i - 1)) (omega arith)))
     where
-      w : 36 + (x - (36 + 14 * i)) + 14 * i ≡ x
+      w : registerRow i (x - (assignmentRows i - 1)) ≡ x
       w = omega arith
 
-      by : (cell t (36 + (x - (36 + 14 * i)) + 14 * i) 0 ≡ 0) ⊎ AssignmentRow r q c (x - (36 + 14 * i)) (rowAt t (36 + (x - (36 + 14 * i)) + 14 * i))
-          → AssignmentRow r q c (x - (36 + 14 * i)) (rowAt t (36 + (x - (36 + 14 * i)) + 14 * i))
+      by : (cell t (registerRow i (x - (assignmentRows i - 1))) 0 ≡ 0) ⊎ AssignmentRow r q c (x - (assignmentRows i - 1)) (rowAt t (registerRow i (x - (assignmentRows i - 1))))
+          → AssignmentRow r q c (x - (assignmentRows i - 1)) (rowAt t (registerRow i (x - (assignmentRows i - 1))))
       by (inl z) = differ (not (eqb (cell t x 0) 0)) e (holds-none t x (subst (λ y. cell t y 0 ≡ 0) w z))
       by (inr z) = z
 
-  assigns-fit : T (allOf (fitsAssignment c r q) (map (assignmentAt t) (present t (37 + 14 * i) 5)))
+  assigns-fit : T (allOf (fitsAssignment c r q) (map (assignmentAt t) (present t (assignmentRows i) 5)))
   assigns-fit =
-      select-all (λ row. not (eqb (cell t row 0) 0)) (fitsAssignment c r q) (assignmentAt t) (37 + 14 * i) 5
-      (λ x u v e. assignment-fits r q c (x - (36 + 14 * i)) t x (row-of x u v e))
+      select-all (λ row. not (eqb (cell t row 0) 0)) (fitsAssignment c r q) (assignmentAt t) (assignmentRows i) 5
+      (λ x u v e. assignment-fits r q c (x - (assignmentRows i - 1)) t x (row-of x u v e))
 
-  assigns-rise : T (rising (map (λ s. s .register) (map (assignmentAt t) (present t (37 + 14 * i) 5))))
+  assigns-rise : T (rising (map (λ s. s .register) (map (assignmentAt t) (present t (assignmentRows i) 5))))
   assigns-rise =
-      rw (map-map (λ (s : Assignment). s .register) (assignmentAt t) (present t (37 + 14 * i) 5))
-      (select-rising (λ row. not (eqb (cell t row 0) 0)) (λ x. cell t x 1) (36 + 14 * i) (37 + 14 * i) 5
+      rw (map-map (λ (s : Assignment). s .register) (assignmentAt t) (present t (assignmentRows i) 5))
+      (select-rising (λ row. not (eqb (cell t row 0) 0)) (λ x. cell t x 1) (assignmentRows i - 1) (assignmentRows i) 5
       (λ x u v e. let z = row-of x u v e .register in omega arith))
 
 constants-rise : (t : List ℕ) (k : ℕ) → k ≤ 2 → (k ≡ 2 → cell t 1 1 < cell t 2 1) → T (rising (map (λ i. cell t i 1) (upFrom 1 k)))
@@ -123,7 +123,7 @@ module _ (t : List ℕ) where
   -- the parameters of transition i, as its rows have them
   pub transition-arity : (i k q : ℕ) → TransitionRows (cell t 0 1) (cell t 0 2) (cell t 0 3) (cell t 0 4) t i k q → arity (automatonOf t) (transitionAt t i) ≡ q
   unfolding automatonOf
-  transition-arity i k q s = arity-at (cell t (28 + 14 * i) 2) (s .head .action) ∙ s .arity
+  transition-arity i k q s = arity-at (cell t (transitionRow i) 2) (s .head .action) ∙ s .arity
 
   pub transition-fits : (i k q : ℕ) → TransitionRows (cell t 0 1) (cell t 0 2) (cell t 0 3) (cell t 0 4) t i k q → T (fitsTransition (automatonOf t) (transitionAt t i))
   unfolding automatonOf
@@ -136,10 +136,10 @@ module _ (t : List ℕ) where
       (allOf (fitsCondition (cell t 0 2) (cell t 0 1) q) (transitionAt t i .guard))
       (allOf (fitsAssignment (cell t 0 2) (cell t 0 1) q) (transitionAt t i .assigns))
       (rising (map (λ x. x .register) (transitionAt t i .assigns)))
-      (inside-fits (cell t 0 3) (cell t (28 + 14 * i) 1) (s .head .from))
-      (inside-fits (cell t 0 4) (cell t (28 + 14 * i) 2) (s .head .action))
-      (inside-fits (cell t 0 3) (cell t (28 + 14 * i) 3) (s .head .to))
-      (guard-fits (cell t 0 1) q (cell t 0 2) t (29 + 14 * i) k (s .guard))
+      (inside-fits (cell t 0 3) (cell t (transitionRow i) 1) (s .head .from))
+      (inside-fits (cell t 0 4) (cell t (transitionRow i) 2) (s .head .action))
+      (inside-fits (cell t 0 3) (cell t (transitionRow i) 3) (s .head .to))
+      (guard-fits (cell t 0 1) q (cell t 0 2) t (guardRows i) k (s .guard))
       (assigns-fit (cell t 0 1) q (cell t 0 2) t i (s .assigns))
       (assigns-rise (cell t 0 1) q (cell t 0 2) t i (s .assigns)))
 
@@ -171,7 +171,7 @@ module _ (t : List ℕ) (n : Legal t) where
       (le→leb (length (a .starting)) 8 (omega (arith, length-map (present t 20 8) (conditionAt t), present-few t 20 8)))
       (le→leb (length (a .transitions)) 64 (rw (transition-count t) (n .transitions)))
       (upFrom-all (λ x. leb (length (x .guard)) 8) (transitionAt t) 0 (cell t 0 5)
-      (λ x u v. le→leb (length (transitionAt t x .guard)) 8 (omega (arith, length-map (present t (29 + 14 * x) 8) (conditionAt t), present-few t (29 + 14 * x) 8))))
+      (λ x u v. le→leb (length (transitionAt t x .guard)) 8 (omega (arith, length-map (present t (guardRows x) 8) (conditionAt t), present-few t (guardRows x) 8))))
 
 -- what is read as a table is well formed and keeps every limit
 pub table-well-formed : (s t : List ℕ) → readTable s ≡ accepted t → T (wellFormed (automatonOf t)) × T (limited (automatonOf t))

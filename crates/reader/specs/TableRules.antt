@@ -6,7 +6,7 @@ use mathlib.Core.List.{List, [], _∷_}
 use lib.Dec.{leb, ltb, eqb}
 use lib.ListN.{getD, set}
 use Rattle.automata.specs.WellFormed.{inside}
-use Rattle.forms.specs.TableForm.{cell, countsRow, constantRows, actionRows, startRow, startingRows, transitionRow, guardRows, assignmentRows}
+use Rattle.forms.specs.TableForm.{cell, countsRow, constantRows, actionRows, startRow, startingRows, transitionRow, guardRows, assignmentRows, arityRow}
 use Rattle.reader.specs.declared.Progress.{Progress}
 use Rattle.reader.specs.declared.Kind.{Kind}
 
@@ -177,7 +177,7 @@ advance p k f a =
 
 -- the progress after a line with the numbers f, where t is the form so far: the row of action i has its parameters
 abbrev pub further : Progress → List ℕ → List ℕ → Progress
-further p f t = advance p (kindAt p (at f 0) (at f 1)) f (cell t (2 + at f 2) 1)
+further p f t = advance p (kindAt p (at f 0) (at f 1)) f (cell t (arityRow (at f 2)) 1)
 
 -- with the row of a line in its place
 abbrev pub placed : Progress → List ℕ → List ℕ → List ℕ

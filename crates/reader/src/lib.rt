@@ -10,6 +10,7 @@ ghost use Rattle.reader.specs.Table.{tableRules, readForm, readTable, re
 ghost use Rattle.reader.specs.TableReply.{replyOf, formOf};
 ghost use Rattle.reader.specs.TableRead.{reading, Small};
 use fields::Line;
+use forms::Form;
 use fields::Lines;
 use refusals::Refusal;
 
@@ -108,17 +109,17 @@ fn kind_at(p: Progress, k: u32, n: u32) -> Kind
     let ids = p.ids as usize;
     let acts = p.acts as usize;
     let conds = p.conds as usize;
-    let rows = 14 * (p.transition as usize);
-    let place = 14 * (p.place as usize);
+    let rows = forms::ROWS_EACH * (p.transition as usize);
+    let place = forms::ROWS_EACH * (p.place as usize);
     match k {
-        1 => kind_with(6, 0, 0, 1, true, false, false, 0),
-        2 => kind_with(2, 1, 2, 2, constant, false, true, 1 + ids),
-        3 => kind_with(2, 1, 3, 3, action, false, false, 3 + acts),
-        4 => kind_with(2, 3, 3, 4, start, false, false, 19),
-        5 => kind_with(6, 4, 4, 4, true, true, false, 20 + conds),
-        6 => kind_with(4, 4, 6, 5, transition, false, false, 28 + rows),
-        7 => kind_with(6, 5, 5, 5, true, true, false, 29 + place + conds),
-        8 => kind_with(4, 5, 6, 6, true, false, true, 37 + place + n as usize - 1),
+        1 => kind_with(6, 0, 0, 1, true, false, false, forms::COUNTS_ROW),
+        2 => kind_with(2, 1, 2, 2, constant, false, true, forms::CONSTANT_ROWS + ids),
+        3 => kind_with(2, 1, 3, 3, action, false, false, forms::ACTION_ROWS + acts),
+        4 => kind_with(2, 3, 3, 4, start, false, false, forms::START_ROW),
+        5 => kind_with(6, 4, 4, 4, true, true, false, forms::STARTING_ROWS + conds),
+        6 => kind_with(4, 4, 6, 5, transition, false, false, forms::TRANSITION_ROWS + rows),
+        7 => kind_with(6, 5, 5, 5, true, true, false, forms::GUARD_ROWS + place + conds),
+        8 => kind_with(4, 5, 6, 6, true, false, true, forms::ASSIGNMENT_ROWS + place + n as usize - 1),
         _ => kind_with(1, 0, 0, 0, false, false, false, 0),
     }
 }
@@ -219,7 +220,7 @@ fn put_row(t: &mut [u32], row: usize, f: [u32; 6])
     requires { ⌜ row ≤ 2 ^ 40 ⌝ }
     ensures { λ r. ⌜ now (t .exit) ≡ put (now (t .entry)) row f ⌝ }
 {
-    let i = 6 * row;
+    let i = forms::ROW * row;
     store(t, i, f[0]);
     store(t, i + 1, f[1]);
     store(t, i + 2, f[2]);
@@ -266,7 +267,7 @@ fn accept(p: Progress, f: [u32; 6], t: &mut [u32]) -> Progress
     ensures { λ r. ⌜ (r ≡ further p f (now (t .entry))) × (now (t .exit) ≡ placed p f (now (t .entry))) ⌝ }
 {
     let action = f[2] as usize;
-    let params = load(t, 6 * (2 + action) + 1);
+    let params = load(t, forms::ROW * (forms::ARITY_ROWS + action) + 1);
     let k = kind_at(p, f[0], f[1]);
     put_row(t, k.row, f);
     advanced(p, k, f, params)
@@ -350,7 +351,7 @@ fn is_complete(p: Progress) -> bool
 }
 
 // Reads the lines of a file to the form t; a refusal leaves t as it is.
-fn read_file(p: Progress, file: u32, limit: usize, s: &[u8], t: &mut [u32; 5544]) -> Reply
+fn read_file(p: Progress, file: u32, limit: usize, s: &[u8], t: &mut Form) -> Reply
     requires { ⌜ (limit ≤ 40000) × Small p 0 ⌝ }
     ensures { λ r. ⌜ (r ≡ replyOf (readForm file limit p (now (s .entry)))) × (now (t .exit) ≡ formOf (readForm file limit p (now (s .entry))) (now (t .entry))) ⌝ }
 {
@@ -361,7 +362,7 @@ fn read_file(p: Progress, file: u32, limit: usize, s: &[u8], t: &mut [u32; 5544]
             line: 0,
         });
     }
-    let mut form = [0u32; 5544];
+    let mut form = [0u32; forms::LENGTH];
     let r = read_bytes(p, s, &mut form);
     let lines = r.lines;
     let n = fields::at_end(lines, is_complete(r.progress));
@@ -377,7 +378,7 @@ fn read_file(p: Progress, file: u32, limit: usize, s: &[u8], t: &mut [u32; 5544]
 }
 
 // Reads a table to the form t; a refusal leaves t as it is.
-pub fn read_table(s: &[u8], t: &mut [u32; 5544]) -> Reply
+pub fn read_table(s: &[u8], t: &mut Form) -> Reply
     ensures { λ r. ⌜ (r ≡ replyOf (readTable (now (s .entry)))) × (now (t .exit) ≡ formOf (readTable (now (s .entry))) (now (t .entry))) ⌝ }
 {
     let p = Progress {
@@ -399,13 +400,13 @@ pub fn read_table(s: &[u8], t: &mut [u32; 5544]) -> Reply
 }
 
 // Reads a target of the table with the form `table` to the form t; a refusal leaves t as it is.
-pub fn read_target(table: &[u32], s: &[u8], t: &mut [u32; 5544]) -> Reply
+pub fn read_target(table: &[u32], s: &[u8], t: &mut Form) -> Reply
     ensures { λ r. ⌜ (r ≡ replyOf (readTarget (now (table .entry)) (now (s .entry)))) × (now (t .exit) ≡ formOf (readTarget (now (table .entry)) (now (s .entry))) (now (t .entry))) ⌝ }
 {
     let p = Progress {
-        registers: load(table, 1),
-        constants: load(table, 2),
-        locations: load(table, 3),
+        registers: load(table, forms::REGISTERS),
+        constants: load(table, forms::CONSTANTS),
+        locations: load(table, forms::LOCATIONS),
         actions: 0,
         transitions: 0,
         stage: 3,

@@ -38,7 +38,7 @@ fn try_target(form: &[u32], a: u8, b: u8, c: u8) -> Refusal {
     let mut bytes = io::buffer();
     let n = io::read_full(file, &mut bytes);
     libc::close(file);
-    let mut target = [0u32; 5544];
+    let mut target = [0u32; forms::LENGTH];
     of_reply(reader::read_target(form, &bytes[..n], &mut target))
 }
 
@@ -84,7 +84,7 @@ fn try_case(a: u8, b: u8, c: u8) -> Refusal {
     let mut bytes = io::large_buffer();
     let n = io::read_full(file, &mut bytes);
     libc::close(file);
-    let mut form = [0u32; 5544];
+    let mut form = [0u32; forms::LENGTH];
     let mut labels = [0u8; 3370];
     let reply = opening::open_table(&bytes[..n], &mut form, &mut labels);
     if let reader::Reply::Accepted = reply {

@@ -149,7 +149,7 @@ fn main() {
     let mut bytes = io::large_buffer();
     let n = io::read_full(file, &mut bytes);
     libc::close(file);
-    let mut form = [0u32; 5544];
+    let mut form = [0u32; forms::LENGTH];
     let mut labels = [0u8; 3370];
     let reply = opening::open_table(&bytes[..n], &mut form, &mut labels);
     if let reader::Reply::Accepted = reply {

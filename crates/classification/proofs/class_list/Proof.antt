@@ -3,7 +3,7 @@
 use borrow.Author.Needs.{needs}
 use Rattle.lists.proofs.Arrays.{written-begins}
 use Rattle.catalogue.specs.Serving.{servingRows}
-use Rattle.classification.proofs.ClassReplies.{most-classes}
+use Rattle.classes.proofs.Catalogue.{few-lists}
 use Rattle.classification.proofs.class_list.Statement.{statement}
 use Rattle.classification.proofs.class_list.Tie as tie
 
@@ -17,7 +17,7 @@ slice-aggregate-fill-rows-2 : tie.Need-slice-aggregate-fill-rows-2
 slice-aggregate-fill-rows-2 c = search needs
 
 fill-rows-requires : tie.Need-fill-rows-requires
-fill-rows-requires c κs = let e = c .before .before .before in (c .before .before .table .ensures, e .pre .0, e .pre .1, most-classes (e .args .r) (e .args .c) (e .pre .0) (e .pre .1))
+fill-rows-requires c κs = let e = c .before .before .before in (c .before .before .table .ensures, e .pre .0, e .pre .1, few-lists (e .args .r) (e .args .c) (e .pre .0) (e .pre .1))
 
 slice-aggregate-class-labels : tie.Need-slice-aggregate-class-labels
 slice-aggregate-class-labels c = search needs

@@ -3,7 +3,7 @@ use native.Mathlib.Omega.{arith}
 use borrow.Author.Needs.{needs}
 use Rattle.catalogue.specs.Serving.{servingRows}
 use Rattle.lists.proofs.Arrays.{written-begins}
-use Rattle.opening.proofs.Labels.{classes-most}
+use Rattle.classes.proofs.Catalogue.{few-lists}
 use Rattle.opening.proofs.fill_classes.Statement.{statement}
 use Rattle.opening.proofs.fill_classes.Tie as tie
 use Rattle.opening.proofs.fill_classes.Reads as reads
@@ -24,7 +24,7 @@ slice-aggregate-fill-rows-2 c = search needs
 fill-rows-requires : tie.Need-fill-rows-requires
 fill-rows-requires c κs =
     let e = c .before .before .before .before in
-    (c .before .before .table .ensures, e .pre .0, e .pre .1, classes-most (e .args .registers) (e .args .constants) (e .pre .0) (e .pre .1))
+    (c .before .before .table .ensures, e .pre .0, e .pre .1, few-lists (e .args .registers) (e .args .constants) (e .pre .0) (e .pre .1))
 
 slice-aggregate-fill-labels : tie.Need-slice-aggregate-fill-labels
 slice-aggregate-fill-labels c = search needs
@@ -39,7 +39,7 @@ fill-labels-requires c κs =
       e .pre .0,
       e .pre .1,
       rw (c .before .before .before .before .fill-rows .ensures) (written-begins (servingRows (e .args .registers) (e .args .constants)) _),
-      omega (arith, classes-most (e .args .registers) (e .args .constants) (e .pre .0) (e .pre .1), e .pre .2),
+      omega (arith, few-lists (e .args .registers) (e .args .constants) (e .pre .0) (e .pre .1), e .pre .2),
     )
 
 same-length : tie.Need-same-length

@@ -46,7 +46,7 @@ use denote.Triple.Table.{entered, cited}
 use denote.Triple.Walked.{says, Stays, walkOf, Walks, ends-at, walked, walk-meets}
 use Rattle.struct_slices.specs.Lent.{array-in, array-out}
 use Rattle.struct_slices.specs.Walk.{drops, drops-go, asks, answers}
-use Rattle.forms.specs.TableForm.{automatonOf}
+use Rattle.forms.specs.TableForm.{automatonOf, formLength}
 use Rattle.refusals.specs.Judged.Judged.{accepted}
 use Rattle.forms.specs.Readable.{Readable}
 use Rattle.opening.specs.Opening.{openTable}
@@ -116,7 +116,7 @@ abbrev value : Ty
 value = spell parts.table (pointee (O.the-row .written))
 
 abbrev numbers : Ty
-numbers = spell parts.table (tyArray (tyInt w32) 5544)
+numbers = spell parts.table (tyArray (tyInt w32) formLength)
 
 abbrev bool : Ty
 bool = spell parts.table tyBool
@@ -125,7 +125,7 @@ abbrev verdict : Ty
 verdict = spell parts.table (pointee (Ver.the-row .written))
 
 abbrev reference : Ty
-reference = spell parts.table (tyRef erased imm (tyArray (tyInt w32) 5544))
+reference = spell parts.table (tyRef erased imm (tyArray (tyInt w32) formLength))
 
 abbrev lentNumbers : Ty
 lentNumbers = spell parts.table (sliceTy (tyRef erased imm (tyInt w32)))
@@ -293,7 +293,7 @@ module _ {M : Type 1} (𝓤 : URA M) (H : Heap 𝓤) (A : Atoms 𝓤) (W : Given
         assigns ! (agg ! (and-then ! (load ! (from ! (stop !)) (look ! 6 refl)) (and-then ! (big ! (record { fits = lit< tt })) (no-more !)))) (from ! (stop !)) (init ! 4 refl (tt, (tt, (record { fits = lit< tt }, tt)))) $
         rewrite ! 4 (λ (m : ℕ). ‵ (fat fullShare (sliceTy (tyRef erased imm (pointee (u32 .written)))) l₁₀ 0 (sliceVal (l₅, 0) m))) (sym (able .long)) refl $
         -- the form is lent for a new lifetime
-        move ! (14 ∷ []) $ use1 W (‵ (arr-parts (shares u32) (length t) .part fullShare t l₅ 0)) (array-in 𝓤 H A W u32 5544 t l₅ 0 tt (uint-makes 𝓤 H A W w32) f is-t) $
+        move ! (14 ∷ []) $ use1 W (‵ (arr-parts (shares u32) (length t) .part fullShare t l₅ 0)) (array-in 𝓤 H A W u32 formLength t l₅ 0 tt (uint-makes 𝓤 H A W w32) f is-t) $
         lft-new ! tt (λ α. move ! (1 ∷ []) $
         use1 W (later (some (λ (γ : GName). ‵ (ShrSlice (named 0) (α ∷ []) u32 .own (lent t l₅ γ) (sliceVal (l₅, 0) (length t) ∷ [])) ⊛ ‵ (flent (α ∷ []) (arr-parts (shares u32) (length t) .part fullShare t l₅ 0)))))
         (lends-shr-slice 𝓤 H A W u32 (named 0) (α ∷ []) fullShare t l₅ 0 (form-room t able)) $ await ! tt $ pick ! (λ γ. split ! $
@@ -304,7 +304,7 @@ module _ {M : Type 1} (𝓤 : URA M) (H : Heap 𝓤) (A : Atoms 𝓤) (W : Given
         answers ! tt steps.ended (steps.clauses 𝓤 H A mem run) (to-judge t (α ∷ []) l₅ γ) g (λ r. r ≡ judge (automatonOf t) cs ys) (λ r ws. id⊢ 𝓤 _) (λ d is-d e-d.
         use1 W (‵ (flft (α ∷ []) fullShare) ⊛ ‵ (flft κ′ q₁)) (monoR 𝓤 (A .lft (α ∷ []) fullShare) (fst∗ 𝓤 (A .lft κ′ q₁) (emp 𝓤))) $ split ! $ move ! (0 ∷ 2 ∷ []) $
         -- the lifetime has ended, and the form is free again
-        lft-end ! tt $ lent-back ! tt $ use1 W (‵ (froom (tyArray (lone (u32 .mir)) 5544) l₅ 0)) (array-out 𝓤 H A W u32 5544 t l₅ 0 (uint-vals w32) (uint-tells w32) (able .long)) $
+        lft-end ! tt $ lent-back ! tt $ use1 W (‵ (froom (tyArray (lone (u32 .mir)) formLength) l₅ 0)) (array-out 𝓤 H A W u32 formLength t l₅ 0 (uint-vals w32) (uint-tells w32) (able .long)) $
         -- [_5; κ′; κ; the table's; _10; …]
         land ! (from ! (stop !)) (init ! 8 refl (EL.lawful Ver.the-type Ver′.the-laws 𝓤 H A W tt .typed d (g ∷ []) is-d .0)) $
         use0 W (raw (Replies 𝓤 H A mem run .pre (to-reply d g))) (asks 𝓤 H A (Ver.the-row ∷ []) (EL.makes Ver.the-type Ver′.the-plain 𝓤 H A, tt) (d, tt) (g ∷ [], tt) (is-d, tt)) $
@@ -316,8 +316,8 @@ module _ {M : Type 1} (𝓤 : URA M) (H : Heap 𝓤) (A : Atoms 𝓤) (W : Given
         free1 ! $ free1 ! $ free1 ! $ free1 ! $ free1 ! $ free1 ! $ free1 ! $ free1 ! $ free1 ! $ free1 ! $ free1 ! $ free0 ! $ keep ! (1 ∷ 0 ∷ []) $
         by ! (exits r u′ is-r (steps-reply table cs ys t d r opened e-d e-r))))))))))))))))))))))))))
       where
-        form-typed : (t : List ℕ) (f : Val) → Is (Array u32 5544) t (f ∷ []) → Holds (hasTy (tyArray (lone (u32 .mir)) 5544) f) × WT f
-        form-typed t f is = array-lawful 𝓤 H A W u32 (uint-lawful 𝓤 H A W w32) 5544 .typed t (f ∷ []) is .0
+        form-typed : (t : List ℕ) (f : Val) → Is (Array u32 formLength) t (f ∷ []) → Holds (hasTy (tyArray (lone (u32 .mir)) formLength) f) × WT f
+        form-typed t f is = array-lawful 𝓤 H A W u32 (uint-lawful 𝓤 H A W w32) formLength .typed t (f ∷ []) is .0
 
         form-room : (t : List ℕ) → Readable t → Room u32 (length t)
         form-room t able = subst (Room u32) (sym (able .long)) (lit< tt, lit< tt)
