@@ -1,4 +1,4 @@
-//! The data of the program `trials`: groups of cases with this engine's results, and what the program must print.
+//! The data of the program `test_random`: groups of cases with this engine's results, and what the program must print.
 //!
 //! A group is one file. A case is a header line, then the bytes of its table, its target, its question and its list for
 //! the replayer (eight hexadecimal digits a number), each just behind the other. The header has FIELDS numbers of
