@@ -29,7 +29,7 @@ use Rattle.automata.specs.Examples.{Claim, Means, check, examples, state
 use Rattle.automata.specs.Examples.Claim.{classCount, classList, noClass, successors, shortest, never, holds, fails}
 use Rattle.automata.proofs.Questions.{replies}
 use Rattle.automata.proofs.Numbering.{configuration-path, listed-mem, mem-listed}
-use Rattle.automata.proofs.Bisimulation.{wf-constants, conf-listed, step-proper, step-forth, step-back}
+use Rattle.automata.proofs.ClassBisimulation.{wf-constants, conf-listed, step-proper, step-forth, step-back}
 use Rattle.automata.proofs.Reachability.{decides}
 
 eqConfigurations→eq : (cs ds : List Configuration) → T (eqConfigurations cs ds) → cs ≡ ds

@@ -16,7 +16,7 @@ use Rattle.automata.specs.Configurations.{Configuration, conf, stepConf,
 use Rattle.automata.proofs.Equivariance.{guard-agrees, written-renamed, held-renamed}
 use Rattle.automata.proofs.StepClasses.{makes-few, makes-wide, makes-guard, makes-held, makes-intro, fits-assigns, fits-guard}
 use Rattle.automata.proofs.Numbering.{configuration-path}
-use Rattle.automata.proofs.Bisimulation.{wf-constants, wf-transition, move-transition, move-makes, step-back, conf-listed, listed-conf}
+use Rattle.automata.proofs.ClassBisimulation.{wf-constants, wf-transition, move-transition, move-makes, step-back, conf-listed, listed-conf}
 
 abbrev pub renamedState : Renaming → State → State
 renamedState π s = record { location = s .location; valuation = rename π (s .valuation) }

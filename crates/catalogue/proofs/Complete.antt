@@ -9,8 +9,8 @@ use Rattle.graphs.specs.Lists.{Dictionary}
 use Rattle.graphs.proofs.Lists.{getD-mem, mem-getD}
 use Rattle.classes.specs.Classes.{Legal, lists, Ascending}
 use Rattle.classes.proofs.Catalogue.{mem-lists, lists-mem, lists-ascending}
-use Rattle.catalogue.specs.Catalogue.{catalogue, row, Complete}
-use Rattle.catalogue.proofs.Buffers.{flat-length, flat-row}
+use Rattle.catalogue.specs.FlatCatalogue.{catalogue, row, Complete}
+use Rattle.catalogue.proofs.Copying.{flat-length, flat-row}
 
 -- a list of the definition is legal, and as long as there are registers
 pub lists-legal : (r c n : ℕ) → n < length (lists r c) → Legal c (getD (lists r c) n []) × (length (getD (lists r c) n []) ≡ r)

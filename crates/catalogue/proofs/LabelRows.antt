@@ -2,18 +2,15 @@
 -- Assumes nothing.
 use Prim.Native.Nat.{ℕ, zero, suc, _+_, _*_, _≤_, _<_, max}
 use mathlib.Core.List.{List, [], _∷_}
-use mathlib.Core.Logic.{by-cases}
 use mathlib.Core.Path.{_≡_, sym, ap, _∙_}
-use native.Mathlib.Decide.{decLt}
 use native.Mathlib.Omega.{arith}
-use lib.ListN.{length, getD, take, drop, List·getD-eq-default}
+use lib.ListN.{length, getD, take, drop}
 use lib.Seq.{paste, take-all}
-use Rattle.graphs.proofs.Lists.{row-column}
 use Rattle.classes.specs.Classes.{Legal, lists}
 use Rattle.lists.specs.Arrays.{padded}
 use Rattle.lists.proofs.Arrays.{padded-length, padded-entry}
 use Rattle.catalogue.specs.Serving.{labelRows}
-use Rattle.catalogue.proofs.Buffers.{flat-length, flat-row, row-entry, overlay, overlay-row}
+use Rattle.catalogue.proofs.Copying.{flat-length, flat-row, row-entry, overlay, overlay-row}
 use Rattle.catalogue.proofs.Complete.{lists-legal}
 
 legal-entry : (b : ℕ) (k : List ℕ) (i : ℕ) → Legal b k → getD k i 0 ≤ b + length k
@@ -47,13 +44,3 @@ module _ (r c : ℕ) (h : r ≤ 5) where
       ∙ sym (row-entry (labelRows r c) 5 k i b)
       ∙ ap (λ q. getD q i 0) (label-rows-row k l)
       ∙ padded-entry 5 (getD (lists r c) k []) i (omega (arith, lists-legal r c k l .1))
-
-  pub label-rows-small : c ≤ 2 → (i : ℕ) → getD (labelRows r c) i 0 < 8
-  label-rows-small b i = by-cases (decLt i (length (labelRows r c)))
-      (λ l.
-      let (k, j, kb, jb, e) = row-column (length (lists r c)) 5 i (omega (arith, label-rows-length)) in
-      let (legal, len) = lists-legal r c k kb in
-      let f : getD (labelRows r c) i 0 ≡ getD (getD (lists r c) k []) j 0 =
-      ap (λ q. getD (labelRows r c) q 0) (omega arith) ∙ label-rows-entry k j kb jb in
-      omega (arith, f, legal-entry c (getD (lists r c) k []) j legal))
-      (λ l. omega (arith, List·getD-eq-default (labelRows r c) 0 {n = i} (omega arith)))

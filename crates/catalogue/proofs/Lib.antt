@@ -1,6 +1,6 @@
 -- The theorems that other crates cite, and the lemmas of the functions' proofs.
 pub mod Tested
-pub mod Buffers
+pub mod Copying
 pub mod Complete
 pub mod Narrowed
 pub mod LabelRows

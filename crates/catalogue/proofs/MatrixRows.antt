@@ -24,8 +24,8 @@ use Rattle.classes.proofs.Legal.{labels-length, labels-legal, upFrom-distinct}
 use Rattle.classes.proofs.Matrices.{matrix-labels, class-of-matrix-is}
 use Rattle.lists.specs.Arrays.{padded, written}
 use Rattle.labelling.proofs.Noted.{marks-take}
-use Rattle.catalogue.specs.Matrices.{firstEqual, registerOf, valuationOf}
-use Rattle.catalogue.proofs.Buffers.{flat-row, overlay, overlay-row, padded-front}
+use Rattle.catalogue.specs.MatrixCells.{firstEqual, registerOf, valuationOf}
+use Rattle.catalogue.proofs.Copying.{flat-row, overlay, overlay-row, padded-front}
 use Rattle.catalogue.proofs.Complete.{legal-positive}
 
 -- The entries of a row

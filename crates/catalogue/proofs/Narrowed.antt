@@ -14,10 +14,10 @@ use Rattle.graphs.specs.Lists.{upFrom, eqList, select}
 use Rattle.graphs.proofs.Lists.{and-elim, eqList→eq, getD-map, getD-mem, select-mem, upFrom-mem}
 use Rattle.classes.specs.Classes.{lists}
 use Rattle.lists.specs.Arrays.{written}
-use Rattle.catalogue.specs.Catalogue.{catalogue, row}
+use Rattle.catalogue.specs.FlatCatalogue.{catalogue, row}
 use Rattle.catalogue.specs.Serving.{servesLabel, serves, narrow, narrowRow, servingRows}
 use Rattle.catalogue.proofs.Tested.{below, below-pair}
-use Rattle.catalogue.proofs.Buffers.{drop-head, overlay, overlay-next, overlay-all, row-entry}
+use Rattle.catalogue.proofs.Copying.{drop-head, overlay, overlay-next, overlay-all, row-entry}
 use Rattle.catalogue.proofs.Complete.{catalogue-count, catalogue-row, lists-legal}
 
 abbrev eqRows : List (List ℕ) → List (List ℕ) → Bool

@@ -1,5 +1,5 @@
 -- What the contracts cite.
-pub mod Catalogue
+pub mod FlatCatalogue
 pub mod Serving
 pub mod Numbers
-pub mod Matrices
+pub mod MatrixCells

@@ -9,7 +9,7 @@ use lib.ListN.{take}
 use Rattle.graphs.specs.Lists.{select, upFrom}
 use Rattle.classes.specs.Classes.{lists}
 use Rattle.lists.specs.Arrays.{padded}
-use Rattle.catalogue.specs.Catalogue.{catalogue, row}
+use Rattle.catalogue.specs.FlatCatalogue.{catalogue, row}
 
 -- whether a label may stand where so many registers are left: none of a constant above c, and 1 where no register is left
 abbrev pub servesLabel : ℕ → ℕ → ℕ → Bool

@@ -1,6 +1,6 @@
 // The catalogue of all lists for five registers and two constants.
 ghost use mathlib.Core.Path.{_≡_};
-ghost use Rattle.catalogue.specs.Catalogue.{catalogue};
+ghost use Rattle.catalogue.specs.FlatCatalogue.{catalogue};
 
 // All 674 lists in dictionary order, five labels to a row.
 const CATALOGUE: [u8; 3370] = [

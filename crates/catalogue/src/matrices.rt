@@ -8,7 +8,7 @@ ghost use lib.ListN.{length, take, drop};
 ghost use lib.Seq.{paste};
 ghost use Rattle.classes.specs.Matrix.{cell, matrix, classMatrix, classOfMatrix};
 ghost use Rattle.lists.specs.Arrays.{padded, written};
-ghost use Rattle.catalogue.specs.Matrices.{found, firstEqual, valuationOf};
+ghost use Rattle.catalogue.specs.MatrixCells.{found, firstEqual, valuationOf};
 use crate::Found;
 use crate::numbers::class_of;
 

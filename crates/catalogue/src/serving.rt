@@ -6,7 +6,7 @@ ghost use lib.ListN.{length, getD};
 ghost use lib.Seq.{paste};
 ghost use Rattle.classes.specs.Classes.{lists};
 ghost use Rattle.lists.specs.Arrays.{padded, written, Begins};
-ghost use Rattle.catalogue.specs.Catalogue.{catalogue, row};
+ghost use Rattle.catalogue.specs.FlatCatalogue.{catalogue, row};
 ghost use Rattle.catalogue.specs.Serving.{servesLabel, serves, narrow, servingRows, labelRows};
 use crate::numbers::class_count;
 use crate::numbers::wide16;

@@ -19,7 +19,7 @@ use Rattle.questions.specs.QuestionReply.{replyOf, formOf}
 use Rattle.questions.specs.declared.Reply.{Reply}
 use Rattle.questions.specs.declared.Reply.the-variants.{Accepted, Refused}
 use Rattle.questions.proofs.Fits.{question-form}
-use Rattle.questions.proofs.Outcomes.{accepted-rows}
+use Rattle.questions.proofs.QuestionOutcomes.{accepted-rows}
 use Rattle.opening.specs.Opening.{openTable}
 use Rattle.checker.specs.Files.{WithQuestion, withQuestion, questionTo, questionFiles, askFiles}
 

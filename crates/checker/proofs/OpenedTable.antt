@@ -19,9 +19,9 @@ use Rattle.catalogue.proofs.LabelRows.{label-rows-length}
 use Rattle.lists.proofs.Arrays.{written-length}
 use Rattle.opening.specs.Opening.{openTable, labelsOf, classLabels}
 use Rattle.opening.proofs.Opened.{opened-readable}
-use Rattle.opening.proofs.Labels.{counts-few, labels-held}
+use Rattle.opening.proofs.LabelsWritten.{counts-few, labels-held}
 use Rattle.automata.specs.WellFormed.{constantCount}
-use Rattle.forms.proofs.Lent.{classes-few}
+use Rattle.forms.proofs.LentNumbers.{classes-few}
 use Rattle.forms.specs.ClassLabels.{Labels, Lent}
 
 -- the table of these bytes has the form t, and the labels of its classes are cat

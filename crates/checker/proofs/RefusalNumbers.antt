@@ -16,8 +16,8 @@ use Rattle.forms.specs.TableForm.{automatonOf}
 use Rattle.reader.specs.Table.{readTable, readTarget}
 use Rattle.reader.specs.TableRules.{atStart}
 use Rattle.fields.proofs.LineFiles.{Numbered}
-use Rattle.reader.proofs.Outcomes.{form-numbers}
-use Rattle.questions.proofs.Outcomes.{question-numbers}
+use Rattle.reader.proofs.TableOutcomes.{form-numbers}
+use Rattle.questions.proofs.QuestionOutcomes.{question-numbers}
 use Rattle.conditions.specs.Startable.{startable}
 use Rattle.opening.specs.Opening.{openTable, withStart}
 use Rattle.checker.specs.Files.{withTarget, withQuestion, questionTo, targetFiles, questionFiles}

@@ -20,14 +20,14 @@ use Rattle.automata.specs.WellFormed.{wellFormed, limited, inside, fitsRows, fi
 use Rattle.automata.specs.Configurations.{conf, number, rows, atoms}
 use Rattle.automata.proofs.Equivariance.{inside→}
 use Rattle.automata.proofs.Numbering.{rows-length}
-use Rattle.automata.proofs.Bisimulation.{related-below}
+use Rattle.automata.proofs.ClassBisimulation.{related-below}
 use Rattle.automata.proofs.Questions.{holds-number}
-use Rattle.automata.proofs.Rows.{formulas-length, question-fits}
+use Rattle.automata.proofs.RowFormulas.{formulas-length, question-fits}
 use Rattle.formulas.specs.Rows.{shown}
 use Rattle.formulas.proofs.FrontierRounds.{member-words}
 use Rattle.formulas.proofs.RowSets.{sat-length}
 use Rattle.formulas.proofs.Buffer.{shown-row, held-formula}
-use Rattle.reach.proofs.Graph.{graph-fits}
+use Rattle.reach.proofs.StepGraph.{graph-fits}
 use Rattle.checker.specs.Truth.{RowsClaim}
 
 -- bit c of the row that begins at word 337 j

@@ -17,6 +17,7 @@ pub use classification::matrix_of;
 pub use classification::matrix_of_class;
 pub use editor::maceplateau_ask;
 pub use editor::maceplateau_reach;
+use forms::Form;
 pub use goal::reach;
 pub use question::ask;
 pub use refusals::Refusal;
@@ -24,8 +25,6 @@ pub use replaying::replay;
 pub use replaying::replay_steps;
 pub use steps::step;
 pub use steps::successors;
-
-use forms::Form;
 
 // The answer to a question: it holds at every permitted start, or not, with the smallest failing start class and the number of its registers.
 pub enum Asking {

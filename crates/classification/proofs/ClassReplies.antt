@@ -19,9 +19,9 @@ use Rattle.classes.specs.Matrix.{matrix, classMatrix, classOfMatrix}
 use Rattle.classes.proofs.Catalogue.{index-mem}
 use Rattle.classes.proofs.Contents.{contents-length}
 use Rattle.lists.specs.Arrays.{padded, written}
-use Rattle.catalogue.specs.Matrices.{found}
+use Rattle.catalogue.specs.MatrixCells.{found}
 use Rattle.catalogue.specs.declared.Found.the-variants.{Class, NoClass}
-use Rattle.catalogue.proofs.Buffers.{padded-front}
+use Rattle.catalogue.proofs.Copying.{padded-front}
 use Rattle.catalogue.proofs.Complete.{lists-legal}
 use Rattle.classification.specs.declared.Number.the-variants.{Refused as noNumber, Is}
 use Rattle.classification.specs.declared.Written.{Written}

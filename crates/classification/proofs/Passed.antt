@@ -142,4 +142,3 @@ pair-two [] h = absurd (omega arith)
 pair-two (x ∷ []) h = absurd (omega arith)
 pair-two (x ∷ (y ∷ [])) h = refl
 pair-two (x ∷ (y ∷ (z ∷ zs))) h = absurd (omega arith)
-

@@ -150,10 +150,7 @@ pub fn class_count(registers: u32, constants: u32) -> Number
     let tests = test_counts(true, registers, constants as usize);
     match tests {
         Written::Refused(r) => Number::Refused(r),
-        Written::Done => Number::Is(catalogue::class_count(
-            registers as usize,
-            constants as usize,
-        )),
+        Written::Done => Number::Is(catalogue::class_count(registers as usize, constants as usize)),
     }
 }
 

@@ -10,7 +10,7 @@ ghost use Rattle.classes.specs.Classes.{contents};
 ghost use Rattle.automata.specs.Runs.{Move, after};
 ghost use Rattle.automata.specs.Configurations.{classes, numbered, rows};
 ghost use Rattle.moves.specs.Moves.{smallest};
-ghost use Rattle.moves.specs.Runs.{startContents};
+ghost use Rattle.moves.specs.PathMoves.{startContents};
 ghost use Rattle.forms.specs.TableForm.{automatonOf};
 ghost use Rattle.lists.specs.Arrays.{padded};
 ghost use Rattle.forms.specs.ClassLabels.{Lent};

@@ -1,3 +1,3 @@
 -- Lemmas and theorems about start conditions.
-pub mod Exact
+pub mod StartsExact
 pub mod Located

@@ -16,7 +16,7 @@ use Rattle.automata.specs.Automaton.Term.{register, parameter, constant}
 use Rattle.automata.specs.Runs.{nowhere}
 use Rattle.automata.specs.WellFormed.{inside, fitsTerm, fitsCondition, fitsAssignment, fitsTransition, constantCount, wellFormed, limited}
 use Rattle.automata.proofs.Equivariance.{inside→}
-use Rattle.automata.proofs.Bisimulation.{wf-transition}
+use Rattle.automata.proofs.ClassBisimulation.{wf-transition}
 use Rattle.forms.specs.TableForm.{countsRow, constantRows, actionRows, startingRows, transitionRow, guardRows, assignmentRows, cell, conditionAt, assignmentAt, transitionAt, automatonOf, targetOf, termOf, termAt}
 use Rattle.forms.specs.declared.Guard.{Guard}
 use Rattle.forms.specs.declared.Sets.{Sets}

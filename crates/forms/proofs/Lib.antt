@@ -1,9 +1,9 @@
 -- The lemmas of transitions over slots.
 pub mod Encoding
 pub mod Forms
-pub mod Values
+pub mod TermValues
 pub mod ClassValues
 pub mod KindTable
-pub mod Lent
+pub mod LentNumbers
 pub mod QuestionRows
 pub mod Accessors

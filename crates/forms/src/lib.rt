@@ -19,21 +19,35 @@ ghost use Rattle.forms.specs.Slots.{slotOf, flag, guardOf, conditionsFro
 
 // A table's flat form: how many numbers it has, and in which rows of six its lines stand, as TableForm says.
 pub const LENGTH: usize = 5544;
+
 pub type Form = [u32; 5544];
+
 pub const COUNTS_ROW: usize = 0;
+
 pub const CONSTANT_ROWS: usize = 1;
+
 pub const ACTION_ROWS: usize = 3;
+
 pub const START_ROW: usize = 19;
+
 pub const STARTING_ROWS: usize = 20;
+
 pub const TRANSITION_ROWS: usize = 28;
+
 pub const GUARD_ROWS: usize = 29;
+
 pub const ASSIGNMENT_ROWS: usize = 37;
+
 pub const ROWS_EACH: usize = 14;
 // The row before that of the first action's line 3, the numbers of a row, and the columns of the counts of line 1.
 pub const ARITY_ROWS: usize = 2;
+
 pub const ROW: usize = 6;
+
 pub const REGISTERS: usize = 1;
+
 pub const CONSTANTS: usize = 2;
+
 pub const LOCATIONS: usize = 3;
 
 fn wide(n: u32) -> usize

@@ -90,9 +90,6 @@ written-begins xs buffer = take-append-seam xs (drop (length xs) buffer)
 pub written-length : (xs buffer : List ℕ) → length xs ≤ length buffer → length (written xs buffer) ≡ length buffer
 written-length xs buffer h = omega (arith, length-append xs (drop (length xs) buffer), length-drop (length xs) buffer)
 
-pub written-entry : (xs buffer : List ℕ) (i : ℕ) → i < length xs → getD (written xs buffer) i 0 ≡ getD xs i 0
-written-entry xs buffer i h = List·getD-append xs (drop (length xs) buffer) 0 i h
-
 pub begins-entry : (xs buffer : List ℕ) (i : ℕ) → Begins xs buffer → i < length xs → getD buffer i 0 ≡ getD xs i 0
 begins-entry xs buffer i b h = sym (getD-take (length xs) buffer i 0 h) ∙ ap (λ l. getD l i 0) b
 

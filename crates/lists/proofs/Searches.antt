@@ -88,11 +88,6 @@ anyFrom-elim p i zero t = absurd t
 anyFrom-elim p i (suc n) t = ⊎-elim (λ u. (i, omega arith, omega arith, u))
     (λ u. let (j, h, l, v) = anyFrom-elim p (suc i) n u in (j, omega arith, omega arith, v)) (cond-cases (p i) (anyFrom p (suc i) n) t)
 
-pub anyFrom-agree : (p q : ℕ → Bool) (i n : ℕ) → ((j : ℕ) → i ≤ j → j < i + n → p j ≡ q j) → anyFrom p i n ≡ anyFrom q i n
-unfolding anyFrom
-anyFrom-agree p q i zero e = refl
-anyFrom-agree p q i (suc n) e = cc (e i (omega arith) (omega arith), anyFrom-agree p q (suc i) n (λ j h l. e j (omega arith) (omega arith)))
-
 -- Every number passes
 
 module _ (p : ℕ → Bool) (n i : ℕ) where
@@ -125,11 +120,6 @@ allFrom-elim p i zero t j h l = absurd (omega arith)
 allFrom-elim p i (suc n) t j h l =
     behind (λ k. T (p k)) i j h (and-l (p i) (allFrom p (suc i) n) t) (λ d. allFrom-elim p (suc i) n (and-r (p i) (allFrom p (suc i) n) t) j d (omega arith))
 
-pub allFrom-agree : (p q : ℕ → Bool) (i n : ℕ) → ((j : ℕ) → i ≤ j → j < i + n → p j ≡ q j) → allFrom p i n ≡ allFrom q i n
-unfolding allFrom
-allFrom-agree p q i zero e = refl
-allFrom-agree p q i (suc n) e = cc (e i (omega arith) (omega arith), allFrom-agree p q (suc i) n (λ j h l. e j (omega arith) (omega arith)))
-
 -- The first number that passes
 
 module _ (p : ℕ → Bool) (n i : ℕ) where
@@ -160,16 +150,6 @@ first-range p i (suc n) = go (p i) (first-range p (suc i) n)
         → (i ≤ cond b i (firstFrom p (suc i) n)) × (cond b i (firstFrom p (suc i) n) ≤ i + suc n)
     go true h = (omega arith, omega arith)
     go false (h, l) = (omega arith, omega arith)
-
-pub first-passes : (p : ℕ → Bool) (i n : ℕ) → firstFrom p i n < i + n → T (p (firstFrom p i n))
-unfolding firstFrom
-first-passes p i zero h = absurd (omega arith)
-first-passes p i (suc n) h = go (p i) refl h (first-passes p (suc i) n)
-  where
-    go : (b : Bool) → p i ≡ b → cond b i (firstFrom p (suc i) n) < i + suc n → (firstFrom p (suc i) n < suc i + n → T (p (firstFrom p (suc i) n)))
-        → T (p (cond b i (firstFrom p (suc i) n)))
-    go true e l rest = rw e tt
-    go false e l rest = rest (omega arith)
 
 pub first-before : (p : ℕ → Bool) (i n j : ℕ) → i ≤ j → j < firstFrom p i n → p j ≡ false
 unfolding firstFrom

@@ -14,7 +14,7 @@ use Rattle.classes.specs.Renaming.{rising}
 use Rattle.automata.specs.Automaton.{Transition, Automaton, arity}
 use Rattle.automata.specs.WellFormed.{wellFormed, limited, inside, constantCount, fitsTerm, fitsAssignment, fitsTransition}
 use Rattle.automata.proofs.Equivariance.{inside→}
-use Rattle.automata.proofs.Bisimulation.{wf-transition}
+use Rattle.automata.proofs.ClassBisimulation.{wf-transition}
 use Rattle.moves.specs.Moves.{roomyFor, roomy}
 
 all-intro : {A : Type 0} (p : A → Bool) (xs : List A) → ((x : A) → List·Memᴰ x xs → T (p x)) → T (allOf p xs)

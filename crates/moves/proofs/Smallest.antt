@@ -1,7 +1,7 @@
 -- `smallest` finds the smallest move, or there is none; and there is one wherever the configurations have a step.
 -- Assumes nothing.
 use Prim.Native.Nat.{ℕ, zero, suc, _+_, _≤_, _<_, pred}
-use mathlib.Core.Bool.{Bool, true, false, _&&_}
+use mathlib.Core.Bool.{Bool, _&&_}
 use mathlib.Core.List.{List, _++_, List·Memᴰ}
 use mathlib.Core.Logic.{inl, inr, by-cases}
 use mathlib.Core.Option.{Option, none, some}
@@ -12,18 +12,17 @@ use lib.Dec.{T, eqb, eqb→eq, leb, leb→le, le→leb}
 use lib.Ieee.Fits.{and-i, and-l, and-r, eq→eqb}
 use lib.ListN.{length}
 use Rattle.graphs.specs.Lists.{allOf, AtMost}
-use Rattle.graphs.proofs.Lists.{T-ext, and-elim, allOf-mem, getD-mem}
+use Rattle.graphs.proofs.Lists.{and-elim, allOf-mem, getD-mem}
 use Rattle.classes.specs.Renaming.{rising}
 use Rattle.classes.specs.Classes.{labels, notes, identifiers, Legal}
 use Rattle.classes.proofs.Catalogue.{lists-mem}
 use Rattle.automata.specs.Automaton.{Transition, Automaton, arity}
 use Rattle.automata.specs.Runs.{State, Move, nowhere, transitionOf, makes, isStep, after}
 use Rattle.automata.specs.WellFormed.{wellFormed, Proper, constantCount}
-use Rattle.automata.specs.Configurations.{Configuration, conf, stepClass, stepBy, stepConf, Listed}
-use Rattle.automata.specs.Examples.{isSome}
-use Rattle.automata.proofs.StepClasses.{makes-few, step-to-class, class-to-step}
+use Rattle.automata.specs.Configurations.{Configuration, conf, stepConf, Listed}
+use Rattle.automata.proofs.StepClasses.{makes-few}
 use Rattle.automata.proofs.Numbering.{configuration-path}
-use Rattle.automata.proofs.Bisimulation.{wf-constants, wf-transition, move-makes, move-from, step-back}
+use Rattle.automata.proofs.ClassBisimulation.{wf-constants, wf-transition, move-makes, move-from, step-back}
 use Rattle.moves.specs.Moves.{Leads, spelled, Pooled, Smallest, MoveAnswer, pool, tuples, passes, renewed, joins, parametersOf, moveWith, smallestFrom, smallest, roomyFor, roomy}
 use Rattle.graphs.proofs.Dictionary.{atMost-antisym, atMost-trans, atMost-append, atMost-cons}
 use Rattle.moves.proofs.Tuples.{pool-mem, mem-pool, mem-tuples, tuples-mem, tuples-ascending, FirstOf, first-of}
@@ -129,31 +128,6 @@ module _ (n : ℕ) (a : Automaton) (wf : T (wellFormed a)) (room : T (roomy n a)
     by-transition =
         let r : T (rising (a .constants)) = search (and-l, and-r) in
         found (parametersOf n a t s d) (first-of suits (tuples (arity a t) (pool n (a .constants))) (tuples-ascending (arity a t) n (a .constants) r))
-
-    -- For code: parameters are found just where the classes have a step by this transition, so that others need no search
-
-    leads-by : (ps w : List ℕ) → Leads a s d (move ps w) → T (stepBy a (conf a s) d t)
-    leads-by ps w h =
-        let j : T (joins t s d) = and-l (joins t s d) (passes a t (s .valuation) (d .class) ps) (leads-suits ps w h .0) in
-        let c = step-to-class a t (wf-constants a wf) (wf-transition a wf present) (s .valuation) (proper .wide) ps w (made ps w h) in
-        let c′ : T (stepClass a t (labels (a .constants) (s .valuation)) (d .class)) = subst (λ k. T (stepClass a t (labels (a .constants) (s .valuation)) k)) (ap (λ e. e .class) (h .ends)) c in
-        and-i (joins t s d) (stepClass a t (labels (a .constants) (s .valuation)) (d .class)) j c′
-
-    by-leads : T (stepBy a (conf a s) d t) → (ps w : List ℕ) × Leads a s d (move ps w)
-    by-leads st =
-        let (j, c) = and-elim (joins t s d) (stepClass a t (labels (a .constants) (s .valuation)) (d .class)) st in
-        let (from, to) = and-elim (eqb (t .from) (s .location)) (eqb (t .to) (d .location)) j in
-        let (ps, w, m, e) = class-to-step a t (wf-constants a wf) (wf-transition a wf present) (s .valuation) (proper .wide) (d .class) legal wide c in
-        let l : T (leb 1 i) = le→leb 1 i low in
-        let u : T (leb i (length (a .transitions))) = le→leb i (length (a .transitions)) high in
-        (ps, w, record { step = search and-i; ends = configuration-path (conf a (after a (move ps w))) d (eqb→eq (t .to) (d .location) to) e })
-
-    pub found-step : isSome (parametersOf n a t s d) ≡ stepBy a (conf a s) d t
-    found-step = go (parametersOf n a t s d) by-transition
-      where
-        go : (o : Option (List ℕ)) → Found o → isSome o ≡ stepBy a (conf a s) d t
-        go none f = T-ext false (stepBy a (conf a s) d t) (λ z. absurd z) (λ st. let (ps, w, h) = by-leads st in f ps w h)
-        go (some ps) (h, _, _, _) = T-ext true (stepBy a (conf a s) d t) (λ _. leads-by ps (renewed a t (s .valuation) (d .class) ps) h) (λ _. tt)
 
     -- For code: the parameters found are the smallest identifiers of their own labels, so that it is enough to try one list for each list of labels
     abbrev IsLowered : Option (List ℕ) → Type 0

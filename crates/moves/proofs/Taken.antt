@@ -26,11 +26,11 @@ use Rattle.automata.specs.Configurations.{Configuration, conf, number, numbered
 use Rattle.automata.specs.Answers.{nearestTo}
 use Rattle.automata.proofs.Numbering.{numbered-number, rows-length}
 use Rattle.automata.proofs.StepClasses.{makes-few}
-use Rattle.automata.proofs.Bisimulation.{wf-constants, move-makes, step-proper, initial-proper, conf-listed, related-below, forth, target-agrees, start-agrees}
+use Rattle.automata.proofs.ClassBisimulation.{wf-constants, move-makes, step-proper, initial-proper, conf-listed, related-below, forth, target-agrees, start-agrees}
 use Rattle.moves.specs.Moves.{spelled, Smallest, roomy}
-use Rattle.moves.specs.Runs.{states, EachSmallest, origin, onward, walkContents, walkMoves, RunAnswer}
+use Rattle.moves.specs.PathMoves.{states, EachSmallest, origin, onward, walkContents, walkMoves, RunAnswer}
 use Rattle.moves.specs.Taken.{passed, AllSmallest, Taken}
-use Rattle.moves.proofs.Runs.{prints}
+use Rattle.moves.proofs.PathMoves.{prints}
 
 module _ (a : Automaton) (wf : T (wellFormed a)) where
   -- equal numbers are equal configurations

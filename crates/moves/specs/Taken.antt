@@ -10,7 +10,7 @@ use Rattle.automata.specs.Automaton.{Automaton}
 use Rattle.automata.specs.Runs.{State, Move, after, initial, Target, Reaches, Shortest}
 use Rattle.automata.specs.Configurations.{conf, number}
 use Rattle.moves.specs.Moves.{Pooled, Smallest}
-use Rattle.moves.specs.Runs.{states}
+use Rattle.moves.specs.PathMoves.{states}
 
 -- the numbers of the configurations that a run passes through, from its start to its end
 abbrev pub passed : Automaton → List ℕ → List Move → List ℕ

@@ -1,3 +1,3 @@
 -- What holds of a table that is opened.
-pub mod Labels
+pub mod LabelsWritten
 pub mod Opened

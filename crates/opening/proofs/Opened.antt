@@ -17,10 +17,10 @@ use Rattle.reader.specs.Table.{readTable}
 use Rattle.reader.specs.TableReply.{replyOf, formOf}
 use Rattle.reader.specs.declared.Reply.{Reply}
 use Rattle.reader.specs.declared.Reply.the-variants.{Accepted, Refused}
-use Rattle.reader.proofs.Legal.{legal}
-use Rattle.reader.proofs.WellFormed.{table-well-formed}
+use Rattle.reader.proofs.LegalForms.{legal}
+use Rattle.reader.proofs.WellRead.{table-well-formed}
 use Rattle.conditions.specs.Startable.{startable}
-use Rattle.conditions.proofs.Exact.{startable-exact}
+use Rattle.conditions.proofs.StartsExact.{startable-exact}
 use Rattle.opening.specs.Opening.{withStart, openTable, labelsOf}
 
 -- a table that is read has a readable form

@@ -16,12 +16,12 @@ use Rattle.automata.specs.Automaton.{Automaton, arity}
 use Rattle.automata.specs.Runs.{State, Move, Target, transitionOf, isStep, after, initial, permitted, follows}
 use Rattle.automata.specs.Answers.{nearestTo}
 use Rattle.automata.specs.WellFormed.{fitsTarget}
-use Rattle.moves.specs.Runs.{walkContents, walkMoves}
+use Rattle.moves.specs.PathMoves.{walkContents, walkMoves}
 use Rattle.forms.specs.TableForm.{automatonOf, targetOf}
 use Rattle.refusals.specs.Judged.{Judged, _then_}
 use Rattle.refusals.specs.Judged.Judged.{accepted}
 use Rattle.reader.specs.Table.{readTarget}
-use Rattle.reader.proofs.WellFormed.{target-fits}
+use Rattle.reader.proofs.WellRead.{target-fits}
 use Rattle.forms.specs.Readable.{Readable}
 use Rattle.lists.specs.Arrays.{padded}
 use Rattle.forms.proofs.Forms.{Limits, form-limits}
@@ -29,7 +29,7 @@ use Rattle.opening.specs.Opening.{openTable}
 use Rattle.opening.proofs.Opened.{opened-read, opened-readable}
 use Rattle.concretization.specs.RunLines.{linesFrom, momentNumbers, slotted}
 use Rattle.witness.specs.Printed.{withLines, reachedCount}
-use Rattle.witness.proofs.Judged.{printed-right}
+use Rattle.witness.proofs.RunJudged.{printed-right}
 use Rattle.checker.specs.Files.{WithTarget, withTarget, reachFiles}
 use Rattle.checker.specs.ReachReply.{foundReply, reachReply, reachLines}
 use Rattle.checker.proofs.Targeted.{target-after, reach-roomy}

@@ -23,7 +23,7 @@ use Rattle.questions.specs.Question.{Rows}
 use Rattle.forms.specs.Readable.{Readable}
 use Rattle.opening.specs.Opening.{openTable}
 use Rattle.opening.proofs.Opened.{opened-readable}
-use Rattle.forms.proofs.Lent.{classes-few}
+use Rattle.forms.proofs.LentNumbers.{classes-few}
 use Rattle.witness.proofs.Finding.{few-steps}
 use Rattle.checker.specs.Files.{withTarget, withQuestion, questionTo, targetFiles, questionFiles, searchRoom, rowsRoom, reachFiles, askFiles}
 use Rattle.checker.specs.ReachReply.{foundReply, reachReply}

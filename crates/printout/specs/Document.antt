@@ -6,7 +6,7 @@ use mathlib.Core.Option.{Option, none, some}
 use Rattle.graphs.specs.Search.{Walk, steps}
 use Rattle.automata.specs.Automaton.{Automaton}
 use Rattle.automata.specs.Runs.{Move}
-use Rattle.moves.specs.Runs.{walkContents, walkMoves}
+use Rattle.moves.specs.PathMoves.{walkContents, walkMoves}
 use Rattle.concretization.specs.RunLines.{momentNumbers}
 use Rattle.witness.specs.Printed.{reachedCount}
 use Rattle.printout.specs.Text.{line}

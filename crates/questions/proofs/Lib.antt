@@ -1,5 +1,5 @@
 -- The theorems that other crates cite.
 pub mod RowShapes
-pub mod Outcomes
+pub mod QuestionOutcomes
 pub mod Fits
-pub mod Sample
+pub mod SampleQuestions

@@ -16,7 +16,7 @@ use Rattle.forms.specs.TableForm.{cell, assignmentRows, formLength, guardRows, 
 use Rattle.reader.specs.TableRules.{at, kindAt, put, advance, further, placed}
 use Rattle.reader.proofs.Accepted.{Inside, Stands, line1, line2, line3, line4, line5, line6, line7, line8}
 use Rattle.fields.proofs.Digits.{Low}
-use Rattle.reader.proofs.Rows.{rowAt, six, length-put, kept, written, low-put}
+use Rattle.reader.proofs.FormRows.{rowAt, six, length-put, kept, written, low-put}
 use Rattle.reader.proofs.Shape.{ConditionRow, HeadRow, AssignmentRow, Guarded, TransitionRows}
 
 -- The counters keep to the counts of line 1, and these to their limits

@@ -1,11 +1,11 @@
 -- The lemmas of the reader. For later crates: Shape and Legal (what a form that is read satisfies), WellFormed, Outcomes.
 pub mod Bounds
-pub mod Outcomes
+pub mod TableOutcomes
 pub mod Accepted
-pub mod Rows
+pub mod FormRows
 pub mod Shape
 pub mod Keeping
-pub mod Legal
+pub mod LegalForms
 pub mod Present
-pub mod WellFormed
+pub mod WellRead
 pub mod Sample

@@ -8,7 +8,7 @@ use lib.ListN.{length}
 use Rattle.forms.specs.TableForm.{cell, formLength, guardRows, registerRow, transitionRow, arityRow}
 use Rattle.reader.specs.TableRules.{at}
 use Rattle.reader.proofs.Accepted.{Inside, Named}
-use Rattle.reader.proofs.Rows.{rowAt}
+use Rattle.reader.proofs.FormRows.{rowAt}
 
 -- Rows of lines
 

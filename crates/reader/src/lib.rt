@@ -10,8 +10,8 @@ ghost use Rattle.reader.specs.Table.{tableRules, readForm, readTable, re
 ghost use Rattle.reader.specs.TableReply.{replyOf, formOf};
 ghost use Rattle.reader.specs.TableRead.{reading, Small};
 use fields::Line;
-use forms::Form;
 use fields::Lines;
+use forms::Form;
 use refusals::Refusal;
 
 // How far a table is read. Locations are document 01's places, transitions its arcs.
@@ -113,13 +113,49 @@ fn kind_at(p: Progress, k: u32, n: u32) -> Kind
     let place = forms::ROWS_EACH * (p.place as usize);
     match k {
         1 => kind_with(6, 0, 0, 1, true, false, false, forms::COUNTS_ROW),
-        2 => kind_with(2, 1, 2, 2, constant, false, true, forms::CONSTANT_ROWS + ids),
+        2 => kind_with(
+            2,
+            1,
+            2,
+            2,
+            constant,
+            false,
+            true,
+            forms::CONSTANT_ROWS + ids,
+        ),
         3 => kind_with(2, 1, 3, 3, action, false, false, forms::ACTION_ROWS + acts),
         4 => kind_with(2, 3, 3, 4, start, false, false, forms::START_ROW),
         5 => kind_with(6, 4, 4, 4, true, true, false, forms::STARTING_ROWS + conds),
-        6 => kind_with(4, 4, 6, 5, transition, false, false, forms::TRANSITION_ROWS + rows),
-        7 => kind_with(6, 5, 5, 5, true, true, false, forms::GUARD_ROWS + place + conds),
-        8 => kind_with(4, 5, 6, 6, true, false, true, forms::ASSIGNMENT_ROWS + place + n as usize - 1),
+        6 => kind_with(
+            4,
+            4,
+            6,
+            5,
+            transition,
+            false,
+            false,
+            forms::TRANSITION_ROWS + rows,
+        ),
+        7 => kind_with(
+            6,
+            5,
+            5,
+            5,
+            true,
+            true,
+            false,
+            forms::GUARD_ROWS + place + conds,
+        ),
+        8 => kind_with(
+            4,
+            5,
+            6,
+            6,
+            true,
+            false,
+            true,
+            forms::ASSIGNMENT_ROWS + place + n as usize - 1,
+        ),
         _ => kind_with(1, 0, 0, 0, false, false, false, 0),
     }
 }

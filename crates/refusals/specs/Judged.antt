@@ -19,7 +19,6 @@ pub data Judged (A : Type 0) : Type 0 where
   refused : Refusal → Judged A
 
 infixl 1 _then_
-
 -- first the one, and then, where it accepts, the next, which may look at what was read
 abbrev pub _then_ : {A B : Type 0} → Judged A → (A → Judged B) → Judged B
 _then_ (accepted x) next = next x

@@ -4,7 +4,7 @@ pub mod Labelling
 pub mod Loops
 pub mod Marks
 pub mod Steps
-pub mod Additions
-pub mod Exact
+pub mod MarkAdditions
+pub mod PatternsExact
 pub mod Memory
 pub mod Placing

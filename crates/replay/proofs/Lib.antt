@@ -2,5 +2,5 @@
 pub mod Verdicts
 pub mod Flat
 pub mod Turns
-pub mod Slots
-pub mod Walk
+pub mod StepSlots
+pub mod StepWalk

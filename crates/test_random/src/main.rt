@@ -255,9 +255,7 @@ fn try_reach(table: &[u8], target: &[u8], header: &[u8; 340]) -> Outcome {
         ),
         checker::Reaching::Refused(r) => came(
             2,
-            same_refusal(header, 4, r)
-                & no_sets(&words, &least, &links)
-                & no_run(&run, &lines),
+            same_refusal(header, 4, r) & no_sets(&words, &least, &links) & no_run(&run, &lines),
         ),
     }
 }
@@ -317,10 +315,7 @@ fn try_replay(table: &[u8], list: &[u32], n: usize, header: &[u8; 340]) -> Outco
             0,
             told(header, 16, 0) & told(header, 17, moment as u64),
         ),
-        checker::Replayed::Refused(r) => came(
-            2,
-            same_refusal(header, 16, r),
-        ),
+        checker::Replayed::Refused(r) => came(2, same_refusal(header, 16, r)),
     }
 }
 

@@ -1,4 +1,4 @@
 -- The theorems on what is printed, and the lemmas of the functions' proofs.
 pub mod Finding
-pub mod Judged
-pub mod Sample
+pub mod RunJudged
+pub mod SampleRun

@@ -9,6 +9,7 @@ use Rattle.classification.proofs.Passed.{told-refused, told-done, told-
 use borrow.Author.Needs.{needs}
 use Rattle.classification.proofs.class_count.Statement.{statement}
 use Rattle.classification.proofs.class_count.Tie as tie
+
 test-counts-requires : tie.Need-test-counts-requires
 test-counts-requires c κs = search needs
 

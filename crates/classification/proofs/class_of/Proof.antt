@@ -4,6 +4,7 @@ use Rattle.classification.proofs.ClassReplies.{class-refused, class-tak
 use borrow.Author.Needs.{needs}
 use Rattle.classification.proofs.class_of.Statement.{statement}
 use Rattle.classification.proofs.class_of.Tie as tie
+
 test-lists-requires : tie.Need-test-lists-requires
 test-lists-requires c κs = search needs
 

@@ -6,6 +6,7 @@ use Rattle.classification.proofs.ClassReplies.{number-not-taken, number
 use borrow.Author.Needs.{needs}
 use Rattle.classification.proofs.class_of_matrix.Statement.{statement}
 use Rattle.classification.proofs.class_of_matrix.Tie as tie
+
 square-requires : tie.Need-square-requires
 square-requires c κs = search needs
 

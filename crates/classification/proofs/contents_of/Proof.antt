@@ -10,6 +10,7 @@ use Rattle.classification.proofs.ClassReplies.{list-legal, given-back, 
 use borrow.Author.Needs.{needs}
 use Rattle.classification.proofs.contents_of.Statement.{statement}
 use Rattle.classification.proofs.contents_of.Tie as tie
+
 test-lists-requires : tie.Need-test-lists-requires
 test-lists-requires c κs = search needs
 

@@ -7,6 +7,7 @@ use Rattle.classification.proofs.ClassReplies.{list-legal, given-back, 
 use borrow.Author.Needs.{needs}
 use Rattle.classification.proofs.contents_of_matrix.Statement.{statement}
 use Rattle.classification.proofs.contents_of_matrix.Tie as tie
+
 square-requires : tie.Need-square-requires
 square-requires c κs = search needs
 

@@ -1,7 +1,7 @@
 -- `classification::five` meets its contract. The loop copies one number after another.
 -- Assumes nothing.
 use borrow.Author.Needs.{needs}
-use Rattle.catalogue.proofs.Buffers.{Copied, copied-first, copied-next, copied-ended}
+use Rattle.catalogue.proofs.Copying.{Copied, copied-first, copied-next, copied-ended}
 use mathlib.Core.Path.{refl}
 use lib.ListN.{length}
 use Prim.Native.Nat.{_-_}

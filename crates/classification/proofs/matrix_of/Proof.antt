@@ -4,6 +4,7 @@ use Rattle.classification.proofs.ClassReplies.{matrix-refused, matrix-t
 use borrow.Author.Needs.{needs}
 use Rattle.classification.proofs.matrix_of.Statement.{statement}
 use Rattle.classification.proofs.matrix_of.Tie as tie
+
 square-requires : tie.Need-square-requires
 square-requires c κs = search needs
 

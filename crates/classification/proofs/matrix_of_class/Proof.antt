@@ -7,6 +7,7 @@ use Rattle.classification.proofs.ClassReplies.{class-matrix-refused, cl
 use borrow.Author.Needs.{needs}
 use Rattle.classification.proofs.matrix_of_class.Statement.{statement}
 use Rattle.classification.proofs.matrix_of_class.Tie as tie
+
 square-requires : tie.Need-square-requires
 square-requires c κs = search needs
 

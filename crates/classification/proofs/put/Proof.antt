@@ -1,7 +1,7 @@
 -- `classification::put` meets its contract. The loop copies one number after another.
 -- Assumes nothing.
 use borrow.Author.Needs.{needs}
-use Rattle.catalogue.proofs.Buffers.{overlay, overlay-next, overlay-all}
+use Rattle.catalogue.proofs.Copying.{overlay, overlay-next, overlay-all}
 use lib.Seq.{length-take-le, getD-take}
 use mathlib.Core.Path.{_≡_, refl, _∙_}
 use lib.ListN.{length, take, length-set}

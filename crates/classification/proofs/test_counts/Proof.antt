@@ -8,6 +8,7 @@ use mathlib.Core.Path.{ap, _∙_}
 use borrow.Author.Needs.{needs}
 use Rattle.classification.proofs.test_counts.Statement.{statement}
 use Rattle.classification.proofs.test_counts.Tie as tie
+
 refusal-requires : tie.Need-refusal-requires
 refusal-requires c κs = search needs
 

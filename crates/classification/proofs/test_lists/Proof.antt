@@ -6,6 +6,7 @@ use Rattle.classification.proofs.Passed.{told-done, counts-pass, counts
 use borrow.Author.Needs.{needs}
 use Rattle.classification.proofs.test_lists.Statement.{statement}
 use Rattle.classification.proofs.test_lists.Tie as tie
+
 test-counts-requires : tie.Need-test-counts-requires
 test-counts-requires c κs = search needs
 

@@ -7,7 +7,7 @@ use Rattle.automata.specs.Configurations.{classes}
 use Rattle.forms.specs.TableForm.{automatonOf}
 use Rattle.lists.specs.Arrays.{written}
 use Rattle.catalogue.specs.Serving.{labelRows}
-use Rattle.opening.proofs.Labels.{labels-held}
+use Rattle.opening.proofs.LabelsWritten.{labels-held}
 use Rattle.opening.proofs.classes_start.Statement.{statement}
 use Rattle.opening.proofs.classes_start.Tie as tie
 use Rattle.opening.proofs.classes_start.Reads as reads

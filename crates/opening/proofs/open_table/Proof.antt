@@ -3,7 +3,7 @@ use mathlib.Core.Path.{refl, sym, ap, _∙_}
 use borrow.Author.Needs.{needs}
 use Rattle.reader.specs.TableReply.{replyOf, formOf}
 use Rattle.reader.specs.Table.{readTable}
-use Rattle.reader.proofs.Outcomes.{told}
+use Rattle.reader.proofs.TableOutcomes.{told}
 use Rattle.opening.specs.Opening.{labelsOf}
 use Rattle.opening.proofs.Opened.{read-readable, opened, no-start, not-read}
 use Rattle.opening.proofs.open_table.Statement.{statement}

@@ -10,8 +10,8 @@ use Rattle.automata.specs.Runs.{transitionOf}
 use Rattle.forms.proofs.Forms.{arc-fits}
 use Rattle.replay.specs.Judge.{stepGood}
 use Rattle.replay.specs.Progress.{stateOf}
-use Rattle.replay.proofs.Slots.{step-out, step-found}
-use Rattle.replay.proofs.Walk.{advanced-bad, advanced-stops, advanced-goes}
+use Rattle.replay.proofs.StepSlots.{step-out, step-found}
+use Rattle.replay.proofs.StepWalk.{advanced-bad, advanced-stops, advanced-goes}
 use borrow.Author.Needs.{needs}
 use Rattle.replay.proofs.advance.Statement.{statement}
 use Rattle.replay.proofs.advance.Tie as tie

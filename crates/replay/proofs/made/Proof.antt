@@ -1,6 +1,6 @@
 -- `replay::made` meets its contract.
 -- Assumes nothing.
-use Rattle.replay.proofs.Slots.{made-found}
+use Rattle.replay.proofs.StepSlots.{made-found}
 use borrow.Author.Needs.{needs}
 use Rattle.replay.proofs.made.Statement.{statement}
 use Rattle.replay.proofs.made.Tie as tie

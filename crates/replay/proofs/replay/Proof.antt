@@ -8,7 +8,7 @@ use lib.Seq.{take-all}
 use Rattle.forms.specs.TableForm.{automatonOf}
 use Rattle.replay.specs.Judge.{stepFrom, stepsIn}
 use Rattle.replay.specs.Progress.{begun, advanced, through, judged}
-use Rattle.replay.proofs.Walk.{stepsAt, through-next, through-end, judged-through}
+use Rattle.replay.proofs.StepWalk.{stepsAt, through-next, through-end, judged-through}
 use borrow.Author.Needs.{needs}
 use Rattle.replay.proofs.replay.Statement.{statement}
 use Rattle.replay.proofs.replay.Tie as tie

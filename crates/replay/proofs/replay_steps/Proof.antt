@@ -57,7 +57,7 @@ use Rattle.forms.specs.TableForm.{automatonOf}
 use Rattle.forms.specs.Readable.{Readable}
 use Rattle.replay.specs.Judge.{judge}
 use Rattle.replay.specs.Progress.{begun, advanced, through, judged}
-use Rattle.replay.proofs.Walk.{noStep, taken-next, taken-all, judged-through}
+use Rattle.replay.proofs.StepWalk.{noStep, taken-next, taken-all, judged-through}
 use Rattle.struct_slices.specs.Walk.{drops, drops-go, tests, asks, asks-lent, answers}
 use Rattle.replay.proofs.Step as S
 use Rattle.replay.proofs.Step.Laws as S′

@@ -4,7 +4,7 @@ use mathlib.Core.Path.{_≡_}
 use native.Mathlib.Omega.{arith}
 use lib.ListN.{length}
 use Rattle.forms.proofs.Forms.{start-lines}
-use Rattle.replay.proofs.Slots.{start-found}
+use Rattle.replay.proofs.StepSlots.{start-found}
 use borrow.Author.Needs.{needs}
 use Rattle.replay.proofs.started.Statement.{statement}
 use Rattle.replay.proofs.started.Tie as tie

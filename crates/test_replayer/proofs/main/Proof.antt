@@ -1,7 +1,7 @@
 -- `test_replayer::main` is safe: a table that is accepted is one that the replayer takes.
 -- Assumes nothing.
 use mathlib.Core.Path.{sym}
-use Rattle.reader.proofs.Outcomes.{told}
+use Rattle.reader.proofs.TableOutcomes.{told}
 use Rattle.forms.specs.Readable.{Readable}
 use Rattle.opening.proofs.Opened.{opened-readable}
 use borrow.Author.Needs.{needs}

@@ -2,7 +2,7 @@
 -- computed entry by entry.
 use mathlib.Core.List.{flatMap}
 use mathlib.Core.Path.{refl}
-use Rattle.catalogue.specs.Catalogue.{catalogue}
+use Rattle.catalogue.specs.FlatCatalogue.{catalogue}
 use Rattle.catalogue.proofs.flat.table.Statement.{statement}
 use Rattle.catalogue.proofs.flat.table.Tie as tie
 

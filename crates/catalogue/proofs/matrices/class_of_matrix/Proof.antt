@@ -9,7 +9,7 @@ use lib.ListN.{replicate}
 use Rattle.graphs.specs.Lists.{eqList, upFrom}
 use Rattle.graphs.proofs.Lists.{eqList→eq, eqList-refl}
 use Rattle.classes.specs.Matrix.{matrix}
-use Rattle.catalogue.specs.Matrices.{found, valuationOf}
+use Rattle.catalogue.specs.MatrixCells.{found, valuationOf}
 use Rattle.catalogue.specs.declared.Found.the-variants.{Class}
 use Rattle.labelling.proofs.Noted.{marks-take}
 use Rattle.catalogue.proofs.MatrixRows.{square-fits, valuation-length, valuation-front, matrix-front, class-found, class-missing}

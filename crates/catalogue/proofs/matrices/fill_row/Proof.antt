@@ -10,7 +10,7 @@ use borrow.Author.Tests.{eq-eqb, ne-eqb}
 use lib.Dec.{eqb}
 use lib.ListN.{length, getD, take, length-map, length-set}
 use lib.Seq.{paste, paste-zero, length-take-le}
-use Rattle.catalogue.proofs.Buffers.{paste-next}
+use Rattle.catalogue.proofs.Copying.{paste-next}
 use Rattle.catalogue.proofs.MatrixRows.{cells-entry}
 use Rattle.catalogue.proofs.matrices.fill_row.Statement.{statement}
 use Rattle.catalogue.proofs.matrices.fill_row.Tie as tie

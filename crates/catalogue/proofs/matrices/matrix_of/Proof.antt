@@ -6,7 +6,7 @@ use borrow.Author.Needs.{needs}
 use lib.ListN.{length, getD, take}
 use lib.Seq.{length-take-le, getD-take}
 use Rattle.classes.specs.Matrix.{matrix}
-use Rattle.catalogue.proofs.Buffers.{overlay, overlay-all}
+use Rattle.catalogue.proofs.Copying.{overlay, overlay-all}
 use Rattle.catalogue.proofs.MatrixRows.{cells-own, matrix-length, matrix-more, row-fits}
 use Rattle.catalogue.proofs.matrices.matrix_of.Statement.{statement}
 use Rattle.catalogue.proofs.matrices.matrix_of.Tie as tie

@@ -4,8 +4,8 @@ use mathlib.Core.Path.{_≡_, sym, _∙_}
 use native.Mathlib.Omega.{arith}
 use borrow.Author.Needs.{needs}
 use lib.ListN.{length}
-use Rattle.catalogue.specs.Matrices.{valuationOf}
-use Rattle.catalogue.proofs.Buffers.{Copied, copied-first, copied-next, copied-ended}
+use Rattle.catalogue.specs.MatrixCells.{valuationOf}
+use Rattle.catalogue.proofs.Copying.{Copied, copied-first, copied-next, copied-ended}
 use Rattle.catalogue.proofs.MatrixRows.{row-fits, valuation-length, valuation-entry}
 use Rattle.catalogue.proofs.matrices.valuation_of.Statement.{statement}
 use Rattle.catalogue.proofs.matrices.valuation_of.Tie as tie

@@ -6,7 +6,7 @@ use lib.ListN.{length, take}
 use lib.Seq.{length-take-le}
 use Rattle.classes.specs.Classes.{labels, Legal, lists, index}
 use Rattle.classes.proofs.Legal.{labels-length, labels-legal}
-use Rattle.catalogue.proofs.Buffers.{padded-front}
+use Rattle.catalogue.proofs.Copying.{padded-front}
 use Rattle.catalogue.proofs.numbers.class_of.Statement.{statement}
 use Rattle.catalogue.proofs.numbers.class_of.Tie as tie
 

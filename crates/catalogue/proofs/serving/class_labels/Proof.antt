@@ -8,7 +8,7 @@ use lib.ListN.{length, getD}
 use Rattle.classes.specs.Classes.{lists}
 use Rattle.catalogue.specs.Serving.{servingRows}
 use Rattle.lists.proofs.Arrays.{begins-entry, begins-length}
-use Rattle.catalogue.proofs.Buffers.{Copied, copied-first, copied-next, copied-ended}
+use Rattle.catalogue.proofs.Copying.{Copied, copied-first, copied-next, copied-ended}
 use Rattle.catalogue.proofs.Complete.{catalogue-length, lists-legal}
 use Rattle.catalogue.proofs.Narrowed.{serving-length, serving-below, serving-label}
 use Rattle.catalogue.proofs.serving.class_labels.Statement.{statement}

@@ -6,7 +6,7 @@ use borrow.Author.Needs.{needs}
 use lib.ListN.{length}
 use Rattle.classes.specs.Classes.{lists}
 use Rattle.catalogue.specs.Serving.{labelRows}
-use Rattle.catalogue.proofs.Buffers.{overlay, overlay-all}
+use Rattle.catalogue.proofs.Copying.{overlay, overlay-all}
 use Rattle.catalogue.proofs.LabelRows.{label-rows-length, label-rows-more}
 use Rattle.catalogue.proofs.serving.fill_labels.Statement.{statement}
 use Rattle.catalogue.proofs.serving.fill_labels.Tie as tie

@@ -6,7 +6,7 @@ use mathlib.Core.Path.{_≡_, refl, sym, ap, _∙_}
 use native.Mathlib.Omega.{arith}
 use borrow.Author.Needs.{needs}
 use lib.ListN.{length, length-set}
-use Rattle.catalogue.specs.Catalogue.{catalogue, row}
+use Rattle.catalogue.specs.FlatCatalogue.{catalogue, row}
 use Rattle.catalogue.specs.Serving.{serves, servingRows}
 use Rattle.catalogue.proofs.Complete.{catalogue-length}
 use Rattle.catalogue.proofs.Narrowed.{serving-rows, serving-length, Filling, filling-first, filling-room, filling-kept, filling-passed, filling-ended}

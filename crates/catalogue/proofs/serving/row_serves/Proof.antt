@@ -6,9 +6,9 @@ use borrow.Author.Needs.{needs}
 use borrow.Author.Tests.{not-true, not-false}
 use lib.ListN.{length, getD, drop, length-drop}
 use lib.Seq.{length-take-le}
-use Rattle.catalogue.specs.Catalogue.{row}
+use Rattle.catalogue.specs.FlatCatalogue.{row}
 use Rattle.catalogue.specs.Serving.{servesLabel, serves}
-use Rattle.catalogue.proofs.Buffers.{row-entry}
+use Rattle.catalogue.proofs.Copying.{row-entry}
 use Rattle.catalogue.proofs.Narrowed.{serves-passed, serves-failed, serves-ended}
 use Rattle.catalogue.proofs.serving.row_serves.Statement.{statement}
 use Rattle.catalogue.proofs.serving.row_serves.Tie as tie

@@ -5,7 +5,7 @@ use native.Mathlib.Omega.{arith}
 use borrow.Author.Needs.{needs}
 use lib.ListN.{length, length-set}
 use lib.Seq.{paste, paste-zero}
-use Rattle.catalogue.proofs.Buffers.{paste-next}
+use Rattle.catalogue.proofs.Copying.{paste-next}
 use Rattle.catalogue.proofs.serving.store.Statement.{statement}
 use Rattle.catalogue.proofs.serving.store.Tie as tie
 

@@ -7,6 +7,7 @@ use Rattle.checker.proofs.Codes.{ask-code, ask-number}
 use borrow.Author.Needs.{needs}
 use Rattle.checker.proofs.editor.ask_over.Statement.{statement}
 use Rattle.checker.proofs.editor.ask_over.Tie as tie
+
 ask-requires : tie.Need-ask-requires
 ask-requires c κs = search needs
 

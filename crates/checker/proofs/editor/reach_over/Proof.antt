@@ -7,6 +7,7 @@ use Rattle.checker.proofs.Codes.{reach-code, reach-number}
 use borrow.Author.Needs.{needs}
 use Rattle.checker.proofs.editor.reach_over.Statement.{statement}
 use Rattle.checker.proofs.editor.reach_over.Tie as tie
+
 reach-requires : tie.Need-reach-requires
 reach-requires c κs = search needs
 

@@ -6,6 +6,7 @@ use Rattle.classes.specs.Classes.{lists}
 use borrow.Author.Needs.{needs}
 use Rattle.checker.proofs.given.classes_in.Statement.{statement}
 use Rattle.checker.proofs.given.classes_in.Tie as tie
+
 registers-requires : tie.Need-registers-requires
 registers-requires c κs = search needs
 

@@ -7,6 +7,7 @@ use Rattle.checker.proofs.Asked.{ready, class-labels, lent-as, class-be
 use borrow.Author.Needs.{needs}
 use Rattle.checker.proofs.question.answer_over.Statement.{statement}
 use Rattle.checker.proofs.question.answer_over.Tie as tie
+
 classes-in-requires : tie.Need-classes-in-requires
 classes-in-requires c κs = search needs
 

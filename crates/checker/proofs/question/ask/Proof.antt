@@ -9,6 +9,7 @@ use Rattle.checker.proofs.Meaning.{ask-means}
 use borrow.Author.Needs.{needs}
 use Rattle.checker.proofs.question.ask.Statement.{statement}
 use Rattle.checker.proofs.question.ask.Tie as tie
+
 -- the table, once it is accepted
 opened : (c : tie.After-enum-told) → Opened (c .before .before .before .before .before .before .before .before .before .args .table .now) (c .before .before .open-table .last .1 .0) (c .before .before .open-table .last .1 .1 .0)
 opened c = let o = c .before .before .open-table .ensures in told-opened _ _ _ _ _ _ (o .0) (o .1) (o .2) (c .enum-told .given .1)

@@ -6,6 +6,7 @@ use Rattle.questions.specs.QuestionReply.{replyOf, formOf}
 use borrow.Author.Needs.{needs}
 use Rattle.checker.proofs.question.read_rows.Statement.{statement}
 use Rattle.checker.proofs.question.read_rows.Tie as tie
+
 registers-requires : tie.Need-registers-requires
 registers-requires c κs = search needs
 

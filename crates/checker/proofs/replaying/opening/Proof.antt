@@ -10,6 +10,7 @@ use Rattle.checker.proofs.Replays.{value-refused}
 use borrow.Author.Needs.{needs}
 use Rattle.checker.proofs.replaying.opening.Statement.{statement}
 use Rattle.checker.proofs.replaying.opening.Tie as tie
+
 open-table-requires : tie.Need-open-table-requires
 open-table-requires c κs = search needs
 

@@ -26,10 +26,10 @@ use Rattle.automata.specs.WellFormed.{wellFormed, Proper, constantCount, fitsTa
 use Rattle.automata.specs.Configurations.{Configuration, marks, conf, stepConf, configuration, configurations, number, numbered, rows, starts, startConf, targets, Listed, Related}
 use Rattle.automata.specs.Answers.{nearestTo, Verdict}
 use Rattle.automata.proofs.Numbering.{configuration-path, number-numbered, rows-length}
-use Rattle.automata.proofs.Bisimulation.{wf-constants, wf-start, step-proper, permitted-agrees, target-agrees}
+use Rattle.automata.proofs.ClassBisimulation.{wf-constants, wf-start, step-proper, permitted-agrees, target-agrees}
 use Rattle.automata.proofs.Reachability.{run-proper, decides}
 use Rattle.moves.specs.Moves.{Pooled, smallest, roomy}
-use Rattle.moves.specs.Runs.{through, states, EachSmallest, Trail, startContents, movesAlong, RunAlong, origin, onward, walkContents, walkMoves, RunAnswer}
+use Rattle.moves.specs.PathMoves.{through, states, EachSmallest, Trail, startContents, movesAlong, RunAlong, origin, onward, walkContents, walkMoves, RunAnswer}
 use Rattle.moves.proofs.Smallest.{smallest-found}
 
 -- the configuration that a path ends in

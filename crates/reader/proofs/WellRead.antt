@@ -19,9 +19,9 @@ use Rattle.refusals.specs.Judged.Judged.{accepted}
 use Rattle.forms.specs.TableForm.{cell, present, termOf, conditionAt, assignmentAt, transitionAt, automatonOf, targetOf, assignmentRows, guardRows, registerRow, transitionRow}
 use Rattle.reader.specs.Table.{readTable, readTarget}
 use Rattle.reader.proofs.Accepted.{Inside, Named, aRegister, aParameter, aConstant}
-use Rattle.reader.proofs.Rows.{rowAt}
+use Rattle.reader.proofs.FormRows.{rowAt}
 use Rattle.reader.proofs.Shape.{ConditionRow, AssignmentRow, Guarded, TransitionRows, Legal, LegalTarget}
-use Rattle.reader.proofs.Legal.{legal, legal-target}
+use Rattle.reader.proofs.LegalForms.{legal, legal-target}
 use Rattle.reader.proofs.Present.{select-all, select-rising, upFrom-all, present-few, holds-none}
 
 inside-fits : (n i : ℕ) → Inside n i → T (inside n i)

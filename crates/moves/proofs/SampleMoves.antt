@@ -7,7 +7,7 @@ use Rattle.graphs.specs.Search.{Walk}
 use Rattle.graphs.specs.Search.Walk.{start, _▸_}
 use Rattle.automata.specs.Answers.{nearestTo}
 use Rattle.automata.specs.Examples.{sample, loose, delivered, deliveredByOne, move}
-use Rattle.moves.specs.Runs.{walkContents, walkMoves}
+use Rattle.moves.specs.PathMoves.{walkContents, walkMoves}
 
 abbrev walk : Walk
 walk = start 0 ▸ 7 ▸ 14

@@ -10,7 +10,7 @@ use Rattle.forms.specs.TableForm.{automatonOf}
 use Rattle.forms.specs.Readable.{Readable}
 use Rattle.automata.specs.WellFormed.{constantCount}
 use Rattle.forms.proofs.Forms.{form-limits}
-use Rattle.forms.proofs.Lent.{classes-few}
+use Rattle.forms.proofs.LentNumbers.{classes-few}
 use Rattle.lists.specs.Arrays.{written}
 use Rattle.catalogue.specs.Serving.{labelRows}
 use Rattle.lists.proofs.Arrays.{begins-entry, written-begins, written-length}

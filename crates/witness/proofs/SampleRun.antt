@@ -12,12 +12,12 @@ use Rattle.graphs.proofs.Search.{queue-invariant}
 use Rattle.automata.specs.Configurations.{rows, starts}
 use Rattle.automata.specs.Answers.{nearestTo}
 use Rattle.automata.specs.Examples.{sample, delivered}
-use Rattle.moves.specs.Runs.{walkContents, walkMoves}
+use Rattle.moves.specs.PathMoves.{walkContents, walkMoves}
 use Rattle.lists.specs.Arrays.{padded}
 use Rattle.reach.specs.Buffers.{reachedWords}
 use Rattle.reach.specs.Reaching.{found}
 use Rattle.reach.proofs.Queue.{counted}
-use Rattle.reach.proofs.Graph.{graph-fits}
+use Rattle.reach.proofs.StepGraph.{graph-fits}
 use Rattle.replay.specs.Judge.{flatRun}
 use Rattle.witness.specs.declared.Answer.the-variants.{Reached}
 use Rattle.concretization.specs.RunLines.{runLines}

@@ -13,8 +13,8 @@ use Rattle.automata.specs.Runs.{Target, Shortest}
 use Rattle.automata.specs.Runs as meaning
 use Rattle.automata.specs.WellFormed.{wellFormed, limited, fitsTarget}
 use Rattle.automata.specs.Answers.{nearestTo}
-use Rattle.moves.specs.Runs.{walkContents, walkMoves, RunAnswer}
-use Rattle.moves.proofs.Runs.{prints}
+use Rattle.moves.specs.PathMoves.{walkContents, walkMoves, RunAnswer}
+use Rattle.moves.proofs.PathMoves.{prints}
 use Rattle.moves.proofs.Limits.{limited-roomy}
 use Rattle.replay.specs.Judge.{judgeFlat, flatRun}
 use Rattle.replay.specs.declared.Verdict.the-variants.{Good}
