@@ -10,15 +10,6 @@ use borrow.Author.Needs.{needs}
 use Rattle.classification.proofs.class_count.Statement.{statement}
 use Rattle.classification.proofs.class_count.Tie as tie
 
-test-counts-requires : tie.Need-test-counts-requires
-test-counts-requires c κs = search needs
-
-enum-known-tests : tie.Need-enum-known-tests
-enum-known-tests c = search needs
-
-enum-told : tie.Need-enum-told
-enum-told c = search needs
-
 class-count-requires : tie.Need-class-count-requires
 class-count-requires c κs =
     let a = c .before .before .before .args in
@@ -39,9 +30,9 @@ pub class-count-spec : {M : Type 1} → statement M
 class-count-spec =
     tie.close
     (tie.spec
-    test-counts-requires
-    enum-known-tests
-    enum-told
+    (λ c κs. search needs)
+    (λ c. search needs)
+    (λ c. search needs)
     class-count-requires
     returns
     returns-2)

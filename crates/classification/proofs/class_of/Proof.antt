@@ -5,15 +5,6 @@ use borrow.Author.Needs.{needs}
 use Rattle.classification.proofs.class_of.Statement.{statement}
 use Rattle.classification.proofs.class_of.Tie as tie
 
-test-lists-requires : tie.Need-test-lists-requires
-test-lists-requires c κs = search needs
-
-enum-known-tests : tie.Need-enum-known-tests
-enum-known-tests c = search needs
-
-enum-told : tie.Need-enum-told
-enum-told c = search needs
-
 pair-requires : tie.Need-pair-requires
 pair-requires c κs = let a = c .before .before .before .before .before .args in class-taken (a .registers) (a .constants .now) (a .contents .now) _ (c .before .before .test-lists .ensures) (c .enum-told .given .1) .0
 
@@ -38,9 +29,9 @@ pub class-of-spec : {M : Type 1} → statement M
 class-of-spec =
     tie.close
     (tie.spec
-    test-lists-requires
-    enum-known-tests
-    enum-told
+    (λ c κs. search needs)
+    (λ c. search needs)
+    (λ c. search needs)
     pair-requires
     five-requires
     class-of-requires

@@ -7,29 +7,8 @@ use borrow.Author.Needs.{needs}
 use Rattle.classification.proofs.class_of_matrix.Statement.{statement}
 use Rattle.classification.proofs.class_of_matrix.Tie as tie
 
-square-requires : tie.Need-square-requires
-square-requires c κs = search needs
-
-test-counts-requires : tie.Need-test-counts-requires
-test-counts-requires c κs = search needs
-
-enum-known-tests : tie.Need-enum-known-tests
-enum-known-tests c = search needs
-
-enum-told : tie.Need-enum-told
-enum-told c = search needs
-
 class-of-matrix-requires : tie.Need-class-of-matrix-requires
 class-of-matrix-requires c κs = let a = c .before .before .before .before .before .args in number-taken (a .registers) (a .constants) (a .matrix .now) _ (c .before .before .before .square .ensures) _ (c .before .before .test-counts .ensures) (c .enum-told .given .1)
-
-enum-known-found : tie.Need-enum-known-found
-enum-known-found c = search needs
-
-enum-told-2 : tie.Need-enum-told-2
-enum-told-2 c = search needs
-
-refusal-requires : tie.Need-refusal-requires
-refusal-requires c κs = search needs
 
 returns : tie.Need-returns
 returns c = let a = c .before .before .before .before .before .before .args in number-not-taken (a .registers) (a .constants) (a .matrix .now) _ (c .before .before .before .before .square .ensures) _ (c .before .before .before .test-counts .ensures) _ (c .before .tests .given .1)
@@ -48,14 +27,14 @@ pub class-of-matrix-spec : {M : Type 1} → statement M
 class-of-matrix-spec =
     tie.close
     (tie.spec
-    square-requires
-    test-counts-requires
-    enum-known-tests
-    enum-told
+    (λ c κs. search needs)
+    (λ c κs. search needs)
+    (λ c. search needs)
+    (λ c. search needs)
     class-of-matrix-requires
-    enum-known-found
-    enum-told-2
-    refusal-requires
+    (λ c. search needs)
+    (λ c. search needs)
+    (λ c κs. search needs)
     returns
     returns-2
     returns-3)

@@ -11,23 +11,11 @@ use borrow.Author.Needs.{needs}
 use Rattle.classification.proofs.contents_of.Statement.{statement}
 use Rattle.classification.proofs.contents_of.Tie as tie
 
-test-lists-requires : tie.Need-test-lists-requires
-test-lists-requires c κs = search needs
-
-enum-known-tests : tie.Need-enum-known-tests
-enum-known-tests c = search needs
-
-enum-told : tie.Need-enum-told
-enum-told c = search needs
-
 class-count-requires : tie.Need-class-count-requires
 class-count-requires c κs =
     let a = c .before .before .before .before .before .args in
     let (q, l, w) = contents-taken (a .registers) (a .constants .now) (a .class) (a .out .now) _ (c .before .before .test-lists .ensures) (c .enum-told .given .1) in
     (q, l)
-
-refusal-requires : tie.Need-refusal-requires
-refusal-requires c κs = search needs
 
 returns : tie.Need-returns
 returns c =
@@ -59,9 +47,6 @@ put-requires c κs =
 returns-2 : tie.Need-returns-2
 returns-2 c = let a = c .before .before .before .before .before .before .args in contents-refused (a .registers) (a .constants .now) (a .class) (a .out .now) _ (c .before .before .before .test-lists .ensures) _ (c .before .tests .given .1)
 
-same-length : tie.Need-same-length
-same-length c = search needs
-
 returns-3 : tie.Need-returns-3
 returns-3 c =
     let a = c .before .before .before .before .before .before .before .before .before .before .before .before .before .before .args in
@@ -74,16 +59,16 @@ pub contents-of-spec : {M : Type 1} → statement M
 contents-of-spec =
     tie.close
     (tie.spec
-    test-lists-requires
-    enum-known-tests
-    enum-told
+    (λ c κs. search needs)
+    (λ c. search needs)
+    (λ c. search needs)
     class-count-requires
-    refusal-requires
+    (λ c κs. search needs)
     returns
     class-list-requires
     pair-requires
     contents-of-requires
     put-requires
     returns-2
-    same-length
+    (λ c. search needs)
     returns-3)

@@ -8,26 +8,11 @@ use borrow.Author.Needs.{needs}
 use Rattle.classification.proofs.contents_of_matrix.Statement.{statement}
 use Rattle.classification.proofs.contents_of_matrix.Tie as tie
 
-square-requires : tie.Need-square-requires
-square-requires c κs = search needs
-
-test-lists-requires : tie.Need-test-lists-requires
-test-lists-requires c κs = search needs
-
-enum-known-tests : tie.Need-enum-known-tests
-enum-known-tests c = search needs
-
-enum-told : tie.Need-enum-told
-enum-told c = search needs
-
 class-of-matrix-requires : tie.Need-class-of-matrix-requires
 class-of-matrix-requires c κs =
     let a = c .before .before .before .before .before .before .before .args in
     let (q, l, m, w) = back-taken (a .registers) (a .constants .now) (a .matrix .now) (a .out .now) _ (c .before .before .before .square .ensures) _ (c .before .before .test-lists .ensures) (c .enum-told .given .1) in
     (q, l, m)
-
-enum-known-found : tie.Need-enum-known-found
-enum-known-found c = search needs
 
 class-list-requires : tie.Need-class-list-requires
 class-list-requires c κs =
@@ -51,17 +36,8 @@ put-requires c κs =
     let (q, l, m, w) = back-taken (a .registers) (a .constants .now) (a .matrix .now) (a .out .now) _ (c .before .before .before .before .before .before .before .before .before .before .before .square .ensures) _ (c .before .before .before .before .before .before .before .before .before .before .test-lists .ensures) (c .before .before .before .before .before .before .before .before .enum-told .given .1) in
     (q, w)
 
-enum-told-2 : tie.Need-enum-told-2
-enum-told-2 c = search needs
-
-refusal-requires : tie.Need-refusal-requires
-refusal-requires c κs = search needs
-
 returns : tie.Need-returns
 returns c = let a = c .before .before .before .before .before .before .before .before .args in back-refused (a .registers) (a .constants .now) (a .matrix .now) (a .out .now) _ (c .before .before .before .before .square .ensures) _ (c .before .before .before .test-lists .ensures) _ (c .before .tests .given .1)
-
-same-length : tie.Need-same-length
-same-length c = search needs
 
 returns-2 : tie.Need-returns-2
 returns-2 c =
@@ -82,19 +58,19 @@ pub contents-of-matrix-spec : {M : Type 1} → statement M
 contents-of-matrix-spec =
     tie.close
     (tie.spec
-    square-requires
-    test-lists-requires
-    enum-known-tests
-    enum-told
+    (λ c κs. search needs)
+    (λ c κs. search needs)
+    (λ c. search needs)
+    (λ c. search needs)
     class-of-matrix-requires
-    enum-known-found
+    (λ c. search needs)
     class-list-requires
     pair-requires
     contents-of-requires
     put-requires
-    enum-told-2
-    refusal-requires
+    (λ c. search needs)
+    (λ c κs. search needs)
     returns
-    same-length
+    (λ c. search needs)
     returns-2
     returns-3)

@@ -18,23 +18,8 @@ abbrev μ-loop : tie.MeasureT-loop
 loop-holds : tie.Need-loop-holds Inv-loop μ-loop
 loop-holds c = copied-first (c .args .contents .now) (c .pre)
 
-mul-list : tie.Need-mul-list Inv-loop μ-loop
-mul-list c = search needs
-
-shared-slice-read-list : tie.Need-shared-slice-read-list Inv-loop μ-loop
-shared-slice-read-list c = search needs
-
-mul-list-2 : tie.Need-mul-list-2 Inv-loop μ-loop
-mul-list-2 c = search needs
-
 array-write-list : tie.Need-array-write-list Inv-loop μ-loop
 array-write-list c = omega (arith, c .before .before .loop .inv .fits)
-
-add-i : tie.Need-add-i Inv-loop μ-loop
-add-i c = search needs
-
-loop-less : tie.Need-loop-less Inv-loop μ-loop
-loop-less c = search needs
 
 loop-again : tie.Need-loop-again Inv-loop μ-loop
 loop-again c = let l = c .before .before .loop in copied-next (c .before .before .before .args .contents .now) (l .list) (l .i) _ (l .inv) (omega arith) refl
@@ -49,11 +34,11 @@ five-spec =
     Inv-loop
     μ-loop
     loop-holds
-    mul-list
-    shared-slice-read-list
-    mul-list-2
+    (λ c. search needs)
+    (λ c. search needs)
+    (λ c. search needs)
     array-write-list
-    add-i
-    loop-less
+    (λ c. search needs)
+    (λ c. search needs)
     loop-again
     returns)

@@ -5,18 +5,6 @@ use borrow.Author.Needs.{needs}
 use Rattle.classification.proofs.matrix_of.Statement.{statement}
 use Rattle.classification.proofs.matrix_of.Tie as tie
 
-square-requires : tie.Need-square-requires
-square-requires c κs = search needs
-
-test-lists-requires : tie.Need-test-lists-requires
-test-lists-requires c κs = search needs
-
-enum-known-tests : tie.Need-enum-known-tests
-enum-known-tests c = search needs
-
-enum-told : tie.Need-enum-told
-enum-told c = search needs
-
 pair-requires : tie.Need-pair-requires
 pair-requires c κs = let a = c .before .before .before .before .before .before .before .args in matrix-taken (a .registers) (a .constants .now) (a .contents .now) (a .out .now) _ (c .before .before .before .square .ensures) _ (c .before .before .test-lists .ensures) (c .enum-told .given .1) .0
 
@@ -29,9 +17,6 @@ matrix-of-requires c κs = let a = c .before .before .before .before .before .be
 returns : tie.Need-returns
 returns c = let a = c .before .before .before .before .before .before .before .before .args in matrix-refused (a .registers) (a .constants .now) (a .contents .now) (a .out .now) _ (c .before .before .before .before .square .ensures) _ (c .before .before .before .test-lists .ensures) _ (c .before .tests .given .1)
 
-same-length : tie.Need-same-length
-same-length c = search needs
-
 returns-2 : tie.Need-returns-2
 returns-2 c =
     let a = c .before .before .before .before .before .before .before .before .before .before .before .before .before .args in
@@ -41,13 +26,13 @@ pub matrix-of-spec : {M : Type 1} → statement M
 matrix-of-spec =
     tie.close
     (tie.spec
-    square-requires
-    test-lists-requires
-    enum-known-tests
-    enum-told
+    (λ c κs. search needs)
+    (λ c κs. search needs)
+    (λ c. search needs)
+    (λ c. search needs)
     pair-requires
     five-requires
     matrix-of-requires
     returns
-    same-length
+    (λ c. search needs)
     returns-2)

@@ -8,26 +8,11 @@ use borrow.Author.Needs.{needs}
 use Rattle.classification.proofs.matrix_of_class.Statement.{statement}
 use Rattle.classification.proofs.matrix_of_class.Tie as tie
 
-square-requires : tie.Need-square-requires
-square-requires c κs = search needs
-
-test-counts-requires : tie.Need-test-counts-requires
-test-counts-requires c κs = search needs
-
-enum-known-tests : tie.Need-enum-known-tests
-enum-known-tests c = search needs
-
-enum-told : tie.Need-enum-told
-enum-told c = search needs
-
 class-count-requires : tie.Need-class-count-requires
 class-count-requires c κs =
     let a = c .before .before .before .before .before .args in
     let (q, l, w) = class-matrix-taken (a .registers) (a .constants) (a .class) (a .out .now) _ (c .before .before .before .square .ensures) _ (c .before .before .test-counts .ensures) (c .enum-told .given .1) in
     (q, l)
-
-refusal-requires : tie.Need-refusal-requires
-refusal-requires c κs = search needs
 
 returns : tie.Need-returns
 returns c =
@@ -50,9 +35,6 @@ class-matrix-requires c κs =
 returns-2 : tie.Need-returns-2
 returns-2 c = let a = c .before .before .before .before .before .before .args in class-matrix-refused (a .registers) (a .constants) (a .class) (a .out .now) _ (c .before .before .before .before .square .ensures) _ (c .before .before .before .test-counts .ensures) _ (c .before .tests .given .1)
 
-same-length : tie.Need-same-length
-same-length c = search needs
-
 returns-3 : tie.Need-returns-3
 returns-3 c =
     let a = c .before .before .before .before .before .before .before .before .before .before .before .before .args in
@@ -63,15 +45,15 @@ pub matrix-of-class-spec : {M : Type 1} → statement M
 matrix-of-class-spec =
     tie.close
     (tie.spec
-    square-requires
-    test-counts-requires
-    enum-known-tests
-    enum-told
+    (λ c κs. search needs)
+    (λ c κs. search needs)
+    (λ c. search needs)
+    (λ c. search needs)
     class-count-requires
-    refusal-requires
+    (λ c κs. search needs)
     returns
     class-list-requires
     class-matrix-requires
     returns-2
-    same-length
+    (λ c. search needs)
     returns-3)

@@ -9,17 +9,8 @@ use Rattle.classification.proofs.pair.Tie as tie
 returns : tie.Need-returns
 returns c = pair-none (c .before .args .constants .now) (omega arith)
 
-shared-slice-read-t5 : tie.Need-shared-slice-read-t5
-shared-slice-read-t5 c = search needs
-
 returns-2 : tie.Need-returns-2
 returns-2 c = pair-one (c .before .before .before .args .constants .now) (omega arith)
-
-shared-slice-read-t7 : tie.Need-shared-slice-read-t7
-shared-slice-read-t7 c = search needs
-
-shared-slice-read-t9 : tie.Need-shared-slice-read-t9
-shared-slice-read-t9 c = search needs
 
 returns-3 : tie.Need-returns-3
 returns-3 c = pair-two (c .before .before .before .before .args .constants .now) (omega arith)
@@ -29,8 +20,8 @@ pair-spec =
     tie.close
     (tie.spec
     returns
-    shared-slice-read-t5
+    (λ c. search needs)
     returns-2
-    shared-slice-read-t7
-    shared-slice-read-t9
+    (λ c. search needs)
+    (λ c. search needs)
     returns-3)

@@ -12,8 +12,5 @@ mul-result c =
     let p : c .args .n ≤ 4294967295 = omega arith in
     omega (arith, mul-le-mul p p)
 
-returns : tie.Need-returns
-returns c = search needs
-
 pub square-spec : {M : Type 1} → statement M
-square-spec = tie.close (tie.spec mul-result returns)
+square-spec = tie.close (tie.spec mul-result (λ c. search needs))

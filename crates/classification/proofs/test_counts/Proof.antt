@@ -9,22 +9,13 @@ use borrow.Author.Needs.{needs}
 use Rattle.classification.proofs.test_counts.Statement.{statement}
 use Rattle.classification.proofs.test_counts.Tie as tie
 
-refusal-requires : tie.Need-refusal-requires
-refusal-requires c κs = search needs
-
 returns : tie.Need-returns
 returns c = let a = c .before .before .args in ap Refused (c .refusal .ensures) ∙ unfit (a .registers) (a .constants) (a .fits) (not-true (a .fits) (c .before .if1 .taken))
-
-refusal-requires-2 : tie.Need-refusal-requires-2
-refusal-requires-2 c κs = search needs
 
 returns-2 : tie.Need-returns-2
 returns-2 c =
     let a = c .before .before .before .args in
     ap Refused (c .refusal2 .ensures) ∙ many-registers (a .registers) (a .constants) (a .fits) (not-false (a .fits) (c .before .before .if1 .left)) (omega (arith, c .before .if2 .taken))
-
-refusal-requires-3 : tie.Need-refusal-requires-3
-refusal-requires-3 c κs = search needs
 
 returns-3 : tie.Need-returns-3
 returns-3 c =
@@ -40,10 +31,10 @@ pub test-counts-spec : {M : Type 1} → statement M
 test-counts-spec =
     tie.close
     (tie.spec
-    refusal-requires
+    (λ c κs. search needs)
     returns
-    refusal-requires-2
+    (λ c κs. search needs)
     returns-2
-    refusal-requires-3
+    (λ c κs. search needs)
     returns-3
     returns-4)

@@ -7,23 +7,11 @@ use borrow.Author.Needs.{needs}
 use Rattle.classification.proofs.test_lists.Statement.{statement}
 use Rattle.classification.proofs.test_lists.Tie as tie
 
-test-counts-requires : tie.Need-test-counts-requires
-test-counts-requires c κs = search needs
-
-enum-known-tests : tie.Need-enum-known-tests
-enum-known-tests c = search needs
-
-enum-told : tie.Need-enum-told
-enum-told c = search needs
-
 rises-requires : tie.Need-rises-requires
 rises-requires c κs = let a = c .before .before .before .before .args in counts-pass (a .registers) _ (a .fits) (told-done _ _ (c .before .before .test-counts .ensures) (c .enum-told .given .1)) .2
 
 returns : tie.Need-returns
 returns c = let a = c .before .before .before .before .before .before .args in order-taken (a .fits) (a .registers) (a .constants .now) _ (c .before .before .before .before .test-counts .ensures) (c .before .before .enum-told .given .1) (sym (c .before .rises .ensures) ∙ c .if1 .taken)
-
-refusal-requires : tie.Need-refusal-requires
-refusal-requires c κs = search needs
 
 returns-2 : tie.Need-returns-2
 returns-2 c = let a = c .before .before .before .before .before .args in counts-refused (a .fits) (a .registers) (a .constants .now) _ _ (c .before .before .before .test-counts .ensures) (c .before .tests .given .1)
@@ -37,11 +25,11 @@ pub test-lists-spec : {M : Type 1} → statement M
 test-lists-spec =
     tie.close
     (tie.spec
-    test-counts-requires
-    enum-known-tests
-    enum-told
+    (λ c κs. search needs)
+    (λ c. search needs)
+    (λ c. search needs)
     rises-requires
     returns
-    refusal-requires
+    (λ c κs. search needs)
     returns-2
     returns-3)

@@ -20,9 +20,6 @@ returns : tie.Need-returns
 unfolding padded
 returns c = let e = c .before .args in ap (λ n. seenOf (pool 15 (take n (e .t1)))) (sym (c .if1 .taken))
 
-array-read-push-large : tie.Need-array-read-push-large
-array-read-push-large c = search needs
-
 push-large-requires : tie.Need-push-large-requires
 unfolding padded
 push-large-requires c κs = tidy-seenOf 16 (upFrom 0 15) (omega arith) (omega arith)
@@ -33,9 +30,6 @@ returns-2 c =
     let e = c .before .before .before .args in
     let x = getD (e .t1) 0 0 in
     c .before .push-large .ensures ∙ ap seenOf (pool-more [] x ∙ ap (pool 15) (take-one (e .t1) (e .c) (search needs) (c .if2 .taken)))
-
-array-read-push-large-2 : tie.Need-array-read-push-large-2
-array-read-push-large-2 c = search needs
 
 push-large-requires-2 : tie.Need-push-large-requires-2
 unfolding padded
@@ -59,9 +53,9 @@ choices-spec =
     tie.close
     (tie.spec
     returns
-    array-read-push-large
+    (λ c. search needs)
     push-large-requires
     returns-2
-    array-read-push-large-2
+    (λ c. search needs)
     push-large-requires-2
     returns-3)

@@ -11,18 +11,6 @@ use borrow.Author.Needs.{needs}
 use Rattle.concretization.proofs.connects.Statement.{statement}
 use Rattle.concretization.proofs.connects.Tie as tie
 
-from-requires : tie.Need-from-requires
-from-requires c κs = search needs
-
-cast-if1 : tie.Need-cast-if1
-cast-if1 c = search needs
-
-to-requires : tie.Need-to-requires
-to-requires c κs = search needs
-
-cast-result : tie.Need-cast-result
-cast-result c = search needs
-
 returns : tie.Need-returns
 returns c =
     let e = c .before .before .before .before .args in
@@ -39,4 +27,4 @@ returns-2 c =
 
 pub connects-spec : {M : Type 1} → statement M
 connects-spec =
-    tie.close (tie.spec from-requires cast-if1 to-requires cast-result returns returns-2)
+    tie.close (tie.spec (λ c κs. search needs) (λ c. search needs) (λ c κs. search needs) (λ c. search needs) returns returns-2)

@@ -10,12 +10,6 @@ use borrow.Author.Needs.{needs}
 use Rattle.concretization.proofs.held.Statement.{statement}
 use Rattle.concretization.proofs.held.Tie as tie
 
-constants-seen-requires : tie.Need-constants-seen-requires
-constants-seen-requires c κs = search needs
-
-label-slots-requires : tie.Need-label-slots-requires
-label-slots-requires c κs = search needs
-
 cast-scan : tie.Need-cast-scan
 cast-scan c = omega (arith, c .before .before .before .before .pre .0 .sets-fit)
 
@@ -33,4 +27,4 @@ returns c =
 pub held-spec : {M : Type 1} → statement M
 held-spec =
     tie.close
-    (tie.spec constants-seen-requires label-slots-requires cast-scan scan-requires returns)
+    (tie.spec (λ c κs. search needs) (λ c κs. search needs) cast-scan scan-requires returns)

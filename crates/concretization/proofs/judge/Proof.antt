@@ -22,12 +22,6 @@ cast-scan c = omega (arith, c .before .before .before .before .before .before .p
 scan-requires : tie.Need-scan-requires
 scan-requires c κs = let e = c .before .before .before .before .before .before in (tidy-wider 2 (e .args .base) (e .pre .1) 12 (omega arith), e .pre .0 .sets-fit, e .pre .0 .source-fits)
 
-slice-aggregate-same-entries : tie.Need-slice-aggregate-same-entries
-slice-aggregate-same-entries c = search needs
-
-slice-aggregate-same-entries-2 : tie.Need-slice-aggregate-same-entries-2
-slice-aggregate-same-entries-2 c = search needs
-
 same-entries-requires : tie.Need-same-entries-requires
 same-entries-requires c κs =
     let five : length (c .before .before .before .scan .result .labels) ≡ 5 = ap (λ r. length (r .labels)) (c .before .before .before .scan .ensures) ∙ padded-length 5 _ in
@@ -58,8 +52,8 @@ judge-spec =
     holds-requires
     cast-scan
     scan-requires
-    slice-aggregate-same-entries
-    slice-aggregate-same-entries-2
+    (λ c. search needs)
+    (λ c. search needs)
     same-entries-requires
     returns
     returns-2

@@ -50,15 +50,6 @@ cast-t20 c = let e = c .before .before .before .before .before .before .before .
 add-t21 : tie.Need-add-t21
 add-t21 c = let e = c .before .before .before .before .before .before .before .before .before .before .before in omega (arith, e .pre .1, form-limits (e .args .form .now) (e .pre .0 .readable) .transitions)
 
-array-read-t24 : tie.Need-array-read-t24
-array-read-t24 c = search needs
-
-array-read-t27 : tie.Need-array-read-t27
-array-read-t27 c = search needs
-
-array-read-t30 : tie.Need-array-read-t30
-array-read-t30 c = search needs
-
 returns : tie.Need-returns
 returns c =
     let e = c .before .before .before .before .before .before .before .before .before .before .before in
@@ -96,9 +87,9 @@ move-by-spec =
     renewed-requires
     cast-t20
     add-t21
-    array-read-t24
-    array-read-t27
-    array-read-t30
+    (λ c. search needs)
+    (λ c. search needs)
+    (λ c. search needs)
     returns
     returns-2
     returns-3)

@@ -20,12 +20,6 @@ use borrow.Author.Needs.{needs}
 use Rattle.concretization.proofs.parameters.Statement.{statement}
 use Rattle.concretization.proofs.parameters.Tie as tie
 
-constants-seen-requires : tie.Need-constants-seen-requires
-constants-seen-requires c κs = search needs
-
-slots-requires : tie.Need-slots-requires
-slots-requires c κs = search needs
-
 held-requires : tie.Need-held-requires
 held-requires c κs = let e = c .before .before in (e .pre .0, e .pre .1)
 
@@ -81,8 +75,8 @@ pub parameters-spec : {M : Type 1} → statement M
 parameters-spec =
     tie.close
     (tie.spec
-    constants-seen-requires
-    slots-requires
+    (λ c κs. search needs)
+    (λ c κs. search needs)
     held-requires
     labels-of-requires
     choices-requires

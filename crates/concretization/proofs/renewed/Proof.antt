@@ -33,9 +33,6 @@ scan-requires c κs =
 held-requires : tie.Need-held-requires
 held-requires c κs = let e = c .before .before .before .before .before in (e .pre .0, e .pre .1)
 
-wide-labels-requires : tie.Need-wide-labels-requires
-wide-labels-requires c κs = search needs
-
 labels-of-requires : tie.Need-labels-of-requires
 labels-of-requires c κs =
     let e = c .before .before .before .before .before .before .before .before in
@@ -94,7 +91,7 @@ renewed-spec =
     cast-scan
     scan-requires
     held-requires
-    wide-labels-requires
+    (λ c κs. search needs)
     labels-of-requires
     identifiers-of-requires
     returns)

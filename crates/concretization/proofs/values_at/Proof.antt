@@ -23,9 +23,6 @@ loop-holds : tie.Need-loop-holds Inv-loop μ-loop
 unfolding padded
 loop-holds c = (omega arith, refl)
 
-array-read-j : tie.Need-array-read-j Inv-loop μ-loop
-array-read-j c = search needs
-
 cast-j : tie.Need-cast-j Inv-loop μ-loop
 cast-j c = omega (arith, c .before .before .pre .1 (c .before .loop .i))
 
@@ -34,18 +31,6 @@ mul-values c = omega (arith, c .before .before .pre .1 (c .before .loop .i))
 
 array-read-values : tie.Need-array-read-values Inv-loop μ-loop
 array-read-values c = omega (arith, c .before .before .pre .1 (c .before .loop .i))
-
-mul-values-2 : tie.Need-mul-values-2 Inv-loop μ-loop
-mul-values-2 c = search needs
-
-array-write-values : tie.Need-array-write-values Inv-loop μ-loop
-array-write-values c = search needs
-
-add-i : tie.Need-add-i Inv-loop μ-loop
-add-i c = search needs
-
-loop-less : tie.Need-loop-less Inv-loop μ-loop
-loop-less c = search needs
 
 loop-again : tie.Need-loop-again Inv-loop μ-loop
 loop-again c =
@@ -70,13 +55,13 @@ values-at-spec =
     Inv-loop
     μ-loop
     loop-holds
-    array-read-j
+    (λ c. search needs)
     cast-j
     mul-values
     array-read-values
-    mul-values-2
-    array-write-values
-    add-i
-    loop-less
+    (λ c. search needs)
+    (λ c. search needs)
+    (λ c. search needs)
+    (λ c. search needs)
     loop-again
     returns)

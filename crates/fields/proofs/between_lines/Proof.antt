@@ -3,11 +3,8 @@ use borrow.Author.Needs.{needs}
 use Rattle.fields.proofs.between_lines.Statement.{statement}
 use Rattle.fields.proofs.between_lines.Tie as tie
 
-empty-requires : tie.Need-empty-requires
-empty-requires c κs = search needs
-
 returns : tie.Need-returns
 returns c = simp (c .empty .ensures)
 
 pub between-lines-spec : {M : Type 1} → statement M
-between-lines-spec = tie.close (tie.spec empty-requires returns)
+between-lines-spec = tie.close (tie.spec (λ c κs. search needs) returns)

@@ -5,9 +5,6 @@ use Rattle.fields.specs.Machine.{onByte}
 use Rattle.fields.proofs.with_byte.Statement.{statement}
 use Rattle.fields.proofs.with_byte.Tie as tie
 
-step-requires : tie.Need-step-requires
-step-requires c κs = search needs
-
 returns : tie.Need-returns
 unfolding onByte
 returns c = simp (eq-eqb _ _ (c .before .if1 .taken), c .step .ensures)
@@ -17,4 +14,4 @@ unfolding onByte
 returns-2 c = simp (ne-eqb _ _ (c .if1 .left))
 
 pub with-byte-spec : {M : Type 1} → statement M
-with-byte-spec = tie.close (tie.spec step-requires returns returns-2)
+with-byte-spec = tie.close (tie.spec (λ c κs. search needs) returns returns-2)

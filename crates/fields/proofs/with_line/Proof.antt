@@ -5,12 +5,6 @@ use Rattle.fields.specs.Machine.{onEnd}
 use Rattle.fields.proofs.with_line.Statement.{statement}
 use Rattle.fields.proofs.with_line.Tie as tie
 
-add-between-lines : tie.Need-add-between-lines
-add-between-lines c = search needs
-
-between-lines-requires : tie.Need-between-lines-requires
-between-lines-requires c κs = search needs
-
 returns : tie.Need-returns
 unfolding onEnd
 returns c = simp (eq-eqb _ _ (c .before .before .if1 .taken)) (c .between-lines .ensures)
@@ -20,4 +14,4 @@ unfolding onEnd
 returns-2 c = simp (ne-eqb _ _ (c .before .if1 .left))
 
 pub with-line-spec : {M : Type 1} → statement M
-with-line-spec = tie.close (tie.spec add-between-lines between-lines-requires returns returns-2)
+with-line-spec = tie.close (tie.spec (λ c. search needs) (λ c κs. search needs) returns returns-2)

@@ -5,12 +5,6 @@ use Rattle.forms.proofs.Forms.{located, arc-made}
 use borrow.Author.Needs.{needs}
 use Rattle.forms.proofs.arc_at.Statement.{statement}
 use Rattle.forms.proofs.arc_at.Tie as tie
-use Rattle.forms.proofs.arc_at.Reads as reads
-use Rattle.forms.proofs.arc_at.Lts as lts
-use Rattle.forms.proofs.field.Reads as field-reads
-use Rattle.forms.proofs.guard_at.Reads as guard-at-reads
-use Rattle.forms.proofs.parameters.Reads as parameters-reads
-use Rattle.forms.proofs.sets_at.Reads as sets-at-reads
 
 field-requires : tie.Need-field-requires
 field-requires c κs = let e = c .before in (e .pre .0 .long, located (e .args .form .now) (e .pre .0) (e .args .i) (e .pre .1) .low, omega arith)
@@ -20,9 +14,6 @@ field-requires-2 c κs = let e = c .before .before in (e .pre .0 .long, located 
 
 field-requires-3 : tie.Need-field-requires-3
 field-requires-3 c κs = let e = c .before .before .before in (e .pre .0 .long, located (e .args .form .now) (e .pre .0) (e .args .i) (e .pre .1) .low, omega arith)
-
-parameters-requires : tie.Need-parameters-requires
-parameters-requires c κs = search needs
 
 mul-guard-at : tie.Need-mul-guard-at
 mul-guard-at c = let e = c .before .before .before .before .before in omega (arith, located (e .args .form .now) (e .pre .0) (e .args .i) (e .pre .1) .low)
@@ -74,7 +65,7 @@ arc-at-spec =
     field-requires
     field-requires-2
     field-requires-3
-    parameters-requires
+    (λ c κs. search needs)
     mul-guard-at
     add-guard-at
     guard-at-requires

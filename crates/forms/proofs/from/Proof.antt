@@ -5,9 +5,6 @@ use Rattle.forms.proofs.Forms.{located}
 use Rattle.forms.proofs.Accessors.{from-is}
 use Rattle.forms.proofs.from.Statement.{statement}
 use Rattle.forms.proofs.from.Tie as tie
-use Rattle.forms.proofs.from.Reads as reads
-use Rattle.forms.proofs.from.Lts as lts
-use Rattle.forms.proofs.field.Reads as field-reads
 
 field-requires : tie.Need-field-requires
 field-requires c κs = let e = c .before in (e .pre .0 .long, located (e .args .form .now) (e .pre .0) (e .args .i) (e .pre .1) .low, omega arith)

@@ -12,9 +12,6 @@ use Rattle.automata.specs.WellFormed.{fitsCondition}
 use borrow.Author.Needs.{needs}
 use Rattle.forms.proofs.guard_at.Statement.{statement}
 use Rattle.forms.proofs.guard_at.Tie as tie
-use Rattle.forms.proofs.guard_at.Reads as reads
-use Rattle.forms.proofs.guard_at.Lts as lts
-use Rattle.forms.proofs.with_condition.Reads as with-condition-reads
 
 abbrev Inv-loop : tie.InvT-loop
 Inv-loop form row g₀ i₀ g i = (i ≤ 8) × (g ≡ guardOf (map (conditionAt form) (present form row i)))
@@ -26,9 +23,6 @@ loop-holds : tie.Need-loop-holds Inv-loop μ-loop
 unfolding padded
 loop-holds c = (omega arith, refl)
 
-add-with-condition : tie.Need-add-with-condition Inv-loop μ-loop
-add-with-condition c = search needs
-
 with-condition-requires : tie.Need-with-condition-requires Inv-loop μ-loop
 with-condition-requires c κs =
     let l = c .before .loop in
@@ -39,12 +33,6 @@ with-condition-requires c κs =
       omega (arith, ap (λ g. g .count) (l .inv .1), lines-le (conditionAt t) t (e .args .row) (l .i)),
       line-passes (conditionAt t) t (e .args .row) (fitsCondition 2 5 3) 8 (e .pre .2) (l .i) (omega arith),
     )
-
-add-i : tie.Need-add-i Inv-loop μ-loop
-add-i c = search needs
-
-loop-less : tie.Need-loop-less Inv-loop μ-loop
-loop-less c = search needs
 
 loop-again : tie.Need-loop-again Inv-loop μ-loop
 loop-again c =
@@ -66,9 +54,9 @@ guard-at-spec =
     Inv-loop
     μ-loop
     loop-holds
-    add-with-condition
+    (λ c. search needs)
     with-condition-requires
-    add-i
-    loop-less
+    (λ c. search needs)
+    (λ c. search needs)
     loop-again
     returns)

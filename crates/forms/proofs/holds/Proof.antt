@@ -10,9 +10,6 @@ use Rattle.forms.specs.Slots.{holdsAt}
 use borrow.Author.Needs.{needs}
 use Rattle.forms.proofs.holds.Statement.{statement}
 use Rattle.forms.proofs.holds.Tie as tie
-use Rattle.forms.proofs.holds.Reads as reads
-use Rattle.forms.proofs.holds.Lts as lts
-use Rattle.forms.proofs.condition_holds.Reads as condition-holds-reads
 
 abbrev Inv-loop : tie.InvT-loop
 Inv-loop vals n left equal right i₀ i = (i ≤ n) × (allFrom (λ j. holdsAt vals (getD left j 0) (getD equal j 0) (getD right j 0)) i (n - i) ≡ allFrom (λ j. holdsAt vals (getD left j 0) (getD equal j 0) (getD right j 0)) 0 n)
@@ -20,32 +17,14 @@ Inv-loop vals n left equal right i₀ i = (i ≤ n) × (allFrom (λ j. holdsAt v
 abbrev μ-loop : tie.MeasureT-loop
 μ-loop vals n left equal right i₀ i = n - i
 
-cast-n : tie.Need-cast-n Inv-loop μ-loop
-cast-n c = search needs
-
 loop-holds : tie.Need-loop-holds Inv-loop μ-loop
 loop-holds c = (omega arith, all-start _ _ 0)
-
-array-read-condition-holds : tie.Need-array-read-condition-holds Inv-loop μ-loop
-array-read-condition-holds c = search needs
-
-array-read-condition-holds-2 : tie.Need-array-read-condition-holds-2 Inv-loop μ-loop
-array-read-condition-holds-2 c = search needs
-
-array-read-condition-holds-3 : tie.Need-array-read-condition-holds-3 Inv-loop μ-loop
-array-read-condition-holds-3 c = search needs
 
 condition-holds-requires : tie.Need-condition-holds-requires Inv-loop μ-loop
 condition-holds-requires c κs =
     let e = c .before .before .before .before .before .before in
     let i = c .before .loop .i in
     (e .pre .left-fits i, e .pre .right-fits i)
-
-add-i : tie.Need-add-i Inv-loop μ-loop
-add-i c = search needs
-
-loop-less : tie.Need-loop-less Inv-loop μ-loop
-loop-less c = search needs
 
 loop-again : tie.Need-loop-again Inv-loop μ-loop
 loop-again c =
@@ -66,14 +45,14 @@ holds-spec =
     (tie.spec
     Inv-loop
     μ-loop
-    cast-n
+    (λ c. search needs)
     loop-holds
-    array-read-condition-holds
-    array-read-condition-holds-2
-    array-read-condition-holds-3
+    (λ c. search needs)
+    (λ c. search needs)
+    (λ c. search needs)
     condition-holds-requires
-    add-i
-    loop-less
+    (λ c. search needs)
+    (λ c. search needs)
     loop-again
     returns
     returns-2)

@@ -5,10 +5,6 @@ use Rattle.forms.proofs.Forms.{located}
 use Rattle.forms.proofs.Accessors.{parameters-are}
 use Rattle.forms.proofs.parameters.Statement.{statement}
 use Rattle.forms.proofs.parameters.Tie as tie
-use Rattle.forms.proofs.parameters.Reads as reads
-use Rattle.forms.proofs.parameters.Lts as lts
-use Rattle.forms.proofs.action_arity.Reads as action-arity-reads
-use Rattle.forms.proofs.field.Reads as field-reads
 
 field-requires : tie.Need-field-requires
 field-requires c κs = let e = c .before in (e .pre .0 .long, located (e .args .form .now) (e .pre .0) (e .args .i) (e .pre .1) .low, omega arith)

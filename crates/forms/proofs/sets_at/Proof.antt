@@ -12,9 +12,6 @@ use Rattle.automata.specs.WellFormed.{fitsAssignment}
 use borrow.Author.Needs.{needs}
 use Rattle.forms.proofs.sets_at.Statement.{statement}
 use Rattle.forms.proofs.sets_at.Tie as tie
-use Rattle.forms.proofs.sets_at.Reads as reads
-use Rattle.forms.proofs.sets_at.Lts as lts
-use Rattle.forms.proofs.with_set.Reads as with-set-reads
 
 abbrev Inv-loop : tie.InvT-loop
 Inv-loop form row s₀ i₀ s i = (i ≤ 5) × (s ≡ setsOf (map (assignmentAt form) (present form row i)))
@@ -26,9 +23,6 @@ loop-holds : tie.Need-loop-holds Inv-loop μ-loop
 unfolding padded
 loop-holds c = (omega arith, refl)
 
-add-with-set : tie.Need-add-with-set Inv-loop μ-loop
-add-with-set c = search needs
-
 with-set-requires : tie.Need-with-set-requires Inv-loop μ-loop
 with-set-requires c κs =
     let l = c .before .loop in
@@ -39,12 +33,6 @@ with-set-requires c κs =
       omega (arith, ap (λ g. g .count) (l .inv .1), lines-le (assignmentAt t) t (e .args .row) (l .i)),
       line-passes (assignmentAt t) t (e .args .row) (fitsAssignment 2 5 3) 5 (e .pre .2) (l .i) (omega arith),
     )
-
-add-i : tie.Need-add-i Inv-loop μ-loop
-add-i c = search needs
-
-loop-less : tie.Need-loop-less Inv-loop μ-loop
-loop-less c = search needs
 
 loop-again : tie.Need-loop-again Inv-loop μ-loop
 loop-again c =
@@ -66,9 +54,9 @@ sets-at-spec =
     Inv-loop
     μ-loop
     loop-holds
-    add-with-set
+    (λ c. search needs)
     with-set-requires
-    add-i
-    loop-less
+    (λ c. search needs)
+    (λ c. search needs)
     loop-again
     returns)

@@ -6,51 +6,6 @@ use borrow.Author.Needs.{needs}
 use Rattle.forms.proofs.shape_of.Statement.{statement}
 use Rattle.forms.proofs.shape_of.Tie as tie
 
-shaped-requires : tie.Need-shaped-requires
-shaped-requires c κs = search needs
-
-shaped-requires-2 : tie.Need-shaped-requires-2
-shaped-requires-2 c κs = search needs
-
-shaped-requires-3 : tie.Need-shaped-requires-3
-shaped-requires-3 c κs = search needs
-
-shaped-requires-4 : tie.Need-shaped-requires-4
-shaped-requires-4 c κs = search needs
-
-shaped-requires-5 : tie.Need-shaped-requires-5
-shaped-requires-5 c κs = search needs
-
-shaped-requires-6 : tie.Need-shaped-requires-6
-shaped-requires-6 c κs = search needs
-
-shaped-requires-7 : tie.Need-shaped-requires-7
-shaped-requires-7 c κs = search needs
-
-shaped-requires-8 : tie.Need-shaped-requires-8
-shaped-requires-8 c κs = search needs
-
-shaped-requires-9 : tie.Need-shaped-requires-9
-shaped-requires-9 c κs = search needs
-
-shaped-requires-10 : tie.Need-shaped-requires-10
-shaped-requires-10 c κs = search needs
-
-shaped-requires-11 : tie.Need-shaped-requires-11
-shaped-requires-11 c κs = search needs
-
-shaped-requires-12 : tie.Need-shaped-requires-12
-shaped-requires-12 c κs = search needs
-
-shaped-requires-13 : tie.Need-shaped-requires-13
-shaped-requires-13 c κs = search needs
-
-shaped-requires-14 : tie.Need-shaped-requires-14
-shaped-requires-14 c κs = search needs
-
-shaped-requires-15 : tie.Need-shaped-requires-15
-shaped-requires-15 c κs = search needs
-
 returns : tie.Need-returns
 unfolding shapeOf
 returns c = rw (c .before .match .keys1) (c .shaped .ensures)
@@ -117,21 +72,21 @@ pub shape-of-spec : {M : Type 1} → statement M
 shape-of-spec =
     tie.close
     (tie.spec
-    shaped-requires
-    shaped-requires-2
-    shaped-requires-3
-    shaped-requires-4
-    shaped-requires-5
-    shaped-requires-6
-    shaped-requires-7
-    shaped-requires-8
-    shaped-requires-9
-    shaped-requires-10
-    shaped-requires-11
-    shaped-requires-12
-    shaped-requires-13
-    shaped-requires-14
-    shaped-requires-15
+    (λ c κs. search needs)
+    (λ c κs. search needs)
+    (λ c κs. search needs)
+    (λ c κs. search needs)
+    (λ c κs. search needs)
+    (λ c κs. search needs)
+    (λ c κs. search needs)
+    (λ c κs. search needs)
+    (λ c κs. search needs)
+    (λ c κs. search needs)
+    (λ c κs. search needs)
+    (λ c κs. search needs)
+    (λ c κs. search needs)
+    (λ c κs. search needs)
+    (λ c κs. search needs)
     returns
     returns-2
     returns-3

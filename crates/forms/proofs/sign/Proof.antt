@@ -3,8 +3,6 @@
 use borrow.Author.Tests.{eq-eqb, ne-eqb}
 use Rattle.forms.proofs.sign.Statement.{statement}
 use Rattle.forms.proofs.sign.Tie as tie
-use Rattle.forms.proofs.sign.Reads as reads
-use Rattle.forms.proofs.sign.Lts as lts
 
 returns : tie.Need-returns
 returns c = simp (eq-eqb _ _ (c .if1 .taken))

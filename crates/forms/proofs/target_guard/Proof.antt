@@ -7,9 +7,6 @@ use Rattle.forms.specs.Slots.{FitsGuard}
 use Rattle.forms.proofs.Forms.{guard-fits, target-few}
 use Rattle.forms.proofs.target_guard.Statement.{statement}
 use Rattle.forms.proofs.target_guard.Tie as tie
-use Rattle.forms.proofs.target_guard.Reads as reads
-use Rattle.forms.proofs.target_guard.Lts as lts
-use Rattle.forms.proofs.guard_at.Reads as guard-at-reads
 
 guard-at-requires : tie.Need-guard-at-requires
 unfolding targetOf

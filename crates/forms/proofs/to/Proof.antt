@@ -5,9 +5,6 @@ use Rattle.forms.proofs.Forms.{located}
 use Rattle.forms.proofs.Accessors.{to-is}
 use Rattle.forms.proofs.to.Statement.{statement}
 use Rattle.forms.proofs.to.Tie as tie
-use Rattle.forms.proofs.to.Reads as reads
-use Rattle.forms.proofs.to.Lts as lts
-use Rattle.forms.proofs.field.Reads as field-reads
 
 field-requires : tie.Need-field-requires
 field-requires c κs = let e = c .before in (e .pre .0 .long, located (e .args .form .now) (e .pre .0) (e .args .i) (e .pre .1) .low, omega arith)

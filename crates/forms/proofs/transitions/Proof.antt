@@ -4,18 +4,9 @@ use Rattle.forms.proofs.Accessors.{transitions-is}
 use borrow.Author.Needs.{needs}
 use Rattle.forms.proofs.transitions.Statement.{statement}
 use Rattle.forms.proofs.transitions.Tie as tie
-use Rattle.forms.proofs.transitions.Reads as reads
-use Rattle.forms.proofs.transitions.Lts as lts
-use Rattle.forms.proofs.wide.Reads as wide-reads
-
-shared-slice-read-wide : tie.Need-shared-slice-read-wide
-shared-slice-read-wide c = search needs
-
-wide-requires : tie.Need-wide-requires
-wide-requires c κs = search needs
 
 returns : tie.Need-returns
 returns c = let e = c .before .before .before in rw (c .wide .ensures) (transitions-is (e .args .form .now) (e .pre))
 
 pub transitions-spec : {M : Type 1} → statement M
-transitions-spec = tie.close (tie.spec shared-slice-read-wide wide-requires returns)
+transitions-spec = tie.close (tie.spec (λ c. search needs) (λ c κs. search needs) returns)

@@ -15,18 +15,12 @@ returns : tie.Need-returns
 unfolding padded
 returns c = let e = c .before .args in ap (λ n. seenOf (take n (e .t1))) (sym (c .if1 .taken))
 
-array-read-push : tie.Need-array-read-push
-array-read-push c = search needs
-
 push-requires : tie.Need-push-requires
 unfolding padded
 push-requires c κs = tidy-seenOf 16 [] (omega arith) (omega arith)
 
 returns-2 : tie.Need-returns-2
 returns-2 c = let e = c .before .before .before .args in c .before .push .ensures ∙ ap seenOf (take-one (e .t1) (e .c) (search needs) (c .if2 .taken))
-
-array-read-push-2 : tie.Need-array-read-push-2
-array-read-push-2 c = search needs
 
 push-requires-2 : tie.Need-push-requires-2
 push-requires-2 c κs = let e = c .before .before .before .args in subst⁻¹ (Tidy 16) (c .before .push .ensures) (tidy-seenOf 16 (getD (e .t1) 0 0 ∷ []) (omega arith) (omega arith))
@@ -43,9 +37,9 @@ constants-seen-spec =
     tie.close
     (tie.spec
     returns
-    array-read-push
+    (λ c. search needs)
     push-requires
     returns-2
-    array-read-push-2
+    (λ c. search needs)
     push-requires-2
     returns-3)

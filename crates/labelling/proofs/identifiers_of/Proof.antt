@@ -23,9 +23,6 @@ loop-holds : tie.Need-loop-holds Inv-loop μ-loop
 unfolding padded
 loop-holds c = (omega arith, search needs, c .pre .0 .same, refl)
 
-array-read-identifier-of : tie.Need-array-read-identifier-of Inv-loop μ-loop
-array-read-identifier-of c = search needs
-
 identifier-of-requires : tie.Need-identifier-of-requires Inv-loop μ-loop
 identifier-of-requires c κs =
     let l = c .before .loop in
@@ -33,24 +30,12 @@ identifier-of-requires c κs =
     let u = c .loop-test .taken in
     (tidy-wider 16 (l .seen) (found-tidy (e .args .s) (e .pre .0) (e .args .t2) (l .i) (omega (arith, e .pre .1, u)) (omega (arith, e .pre .1, u, l .inv .1)) (l .inv .2)) 17 (omega arith), e .pre .2 (l .i) u)
 
-mul-ids : tie.Need-mul-ids Inv-loop μ-loop
-mul-ids c = search needs
-
-array-write-ids : tie.Need-array-write-ids Inv-loop μ-loop
-array-write-ids c = search needs
-
 note-requires : tie.Need-note-requires Inv-loop μ-loop
 note-requires c κs =
     let l = c .before .before .loop in
     let e = c .before .before .before in
     let u = c .before .loop-test .taken in
     found-tidy (e .args .s) (e .pre .0) (e .args .t2) (l .i) (omega (arith, e .pre .1, u)) (omega (arith, e .pre .1, u, l .inv .1)) (l .inv .2)
-
-add-i : tie.Need-add-i Inv-loop μ-loop
-add-i c = search needs
-
-loop-less : tie.Need-loop-less Inv-loop μ-loop
-loop-less c = search needs
 
 loop-again : tie.Need-loop-again Inv-loop μ-loop
 loop-again c =
@@ -77,12 +62,12 @@ identifiers-of-spec =
     Inv-loop
     μ-loop
     loop-holds
-    array-read-identifier-of
+    (λ c. search needs)
     identifier-of-requires
-    mul-ids
-    array-write-ids
+    (λ c. search needs)
+    (λ c. search needs)
     note-requires
-    add-i
-    loop-less
+    (λ c. search needs)
+    (λ c. search needs)
     loop-again
     returns)

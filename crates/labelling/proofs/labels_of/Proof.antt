@@ -23,12 +23,6 @@ loop-holds : tie.Need-loop-holds Inv-loop μ-loop
 unfolding padded
 loop-holds c = (omega arith, search needs, c .pre .0 .same, refl)
 
-mul-x : tie.Need-mul-x Inv-loop μ-loop
-mul-x c = search needs
-
-array-read-x : tie.Need-array-read-x Inv-loop μ-loop
-array-read-x c = search needs
-
 place-requires : tie.Need-place-requires Inv-loop μ-loop
 place-requires c κs =
     let l = c .before .loop in
@@ -52,21 +46,12 @@ cast-labels c =
     let t = value-tidy (e .args .s) (e .pre .0) (e .args .t2) (l .i) (omega (arith, e .pre .1, u)) (omega (arith, e .pre .1, u, l .inv .1)) (l .inv .2) in
     omega (arith, t .few, c .place .ensures .1)
 
-array-write-labels : tie.Need-array-write-labels Inv-loop μ-loop
-array-write-labels c = search needs
-
 note-requires : tie.Need-note-requires Inv-loop μ-loop
 note-requires c κs =
     let l = c .before .before .loop in
     let e = c .before .before .before in
     let u = c .before .loop-test .taken in
     value-tidy (e .args .s) (e .pre .0) (e .args .t2) (l .i) (omega (arith, e .pre .1, u)) (omega (arith, e .pre .1, u, l .inv .1)) (l .inv .2)
-
-add-i : tie.Need-add-i Inv-loop μ-loop
-add-i c = search needs
-
-loop-less : tie.Need-loop-less Inv-loop μ-loop
-loop-less c = search needs
 
 loop-again : tie.Need-loop-again Inv-loop μ-loop
 loop-again c =
@@ -93,14 +78,14 @@ labels-of-spec =
     Inv-loop
     μ-loop
     loop-holds
-    mul-x
-    array-read-x
+    (λ c. search needs)
+    (λ c. search needs)
     place-requires
     add-labels
     cast-labels
-    array-write-labels
+    (λ c. search needs)
     note-requires
-    add-i
-    loop-less
+    (λ c. search needs)
+    (λ c. search needs)
     loop-again
     returns)

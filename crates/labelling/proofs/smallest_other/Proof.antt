@@ -27,15 +27,6 @@ loop-holds c =
     let s = c .args .s in
     (omega arith, c .pre .few, first-start (isNew (known s)) (s .count) 0 ∙ fresh-first (known s) 0 (s .count) ∙ ap (freshFrom (known s) 0) (sym (known-length 17 s (c .pre))))
 
-cast-place : tie.Need-cast-place Inv-loop μ-loop
-cast-place c = search needs
-
-place-requires : tie.Need-place-requires Inv-loop μ-loop
-place-requires c κs = search needs
-
-cast-result : tie.Need-cast-result Inv-loop μ-loop
-cast-result c = search needs
-
 returns : tie.Need-returns Inv-loop μ-loop
 returns c =
     let l = c .before .before .before .loop in
@@ -43,12 +34,6 @@ returns c =
     let s = e .args .s in
     sym (first-here (isNew (known s)) (s .count) (l .i) (c .before .before .loop-test .taken)
     (ap not (le-ltb (position (known s) (l .i)) (length (known s)) (omega (arith, c .if1 .taken, c .before .place .ensures .0, known-length 17 s (e .pre)))))) ∙ l .inv .2
-
-add-i : tie.Need-add-i Inv-loop μ-loop
-add-i c = search needs
-
-loop-less : tie.Need-loop-less Inv-loop μ-loop
-loop-less c = search needs
 
 loop-again : tie.Need-loop-again Inv-loop μ-loop
 loop-again c =
@@ -60,9 +45,6 @@ loop-again c =
       sym (first-later (isNew (known s)) (s .count) (l .i) (c .before .before .loop-test .taken)
           (ap not (lt-ltb (position (known s) (l .i)) (length (known s)) (omega (arith, c .if1 .left, c .before .place .ensures .0, c .before .place .ensures .1, known-length 17 s (e .pre)))))) ∙ l .inv .2,
     )
-
-cast-result-2 : tie.Need-cast-result-2 Inv-loop μ-loop
-cast-result-2 c = search needs
 
 returns-2 : tie.Need-returns-2 Inv-loop μ-loop
 returns-2 c =
@@ -77,12 +59,12 @@ smallest-other-spec =
     Inv-loop
     μ-loop
     loop-holds
-    cast-place
-    place-requires
-    cast-result
+    (λ c. search needs)
+    (λ c κs. search needs)
+    (λ c. search needs)
     returns
-    add-i
-    loop-less
+    (λ c. search needs)
+    (λ c. search needs)
     loop-again
-    cast-result-2
+    (λ c. search needs)
     returns-2)

@@ -10,17 +10,6 @@ use Rattle.catalogue.specs.Serving.{labelRows}
 use Rattle.opening.proofs.LabelsWritten.{labels-held}
 use Rattle.opening.proofs.classes_start.Statement.{statement}
 use Rattle.opening.proofs.classes_start.Tie as tie
-use Rattle.opening.proofs.classes_start.Reads as reads
-use Rattle.opening.proofs.classes_start.Lts as lts
-use Rattle.catalogue.proofs.class_count.Reads as class-count-reads
-use Rattle.conditions.proofs.has_start.Reads as has-start-reads
-use Rattle.opening.proofs.fill_classes.Reads as fill-classes-reads
-
-registers-requires : tie.Need-registers-requires
-registers-requires c κs = search needs
-
-constants-requires : tie.Need-constants-requires
-constants-requires c κs = search needs
 
 fill-classes-requires : tie.Need-fill-classes-requires
 fill-classes-requires c κs = (c .before .before .registers .ensures .1, c .before .constants .ensures .1, c .before .before .before .before .before .pre .1)
@@ -38,9 +27,6 @@ has-start-requires c κs =
     let counted : c .before .class-count .result ≡ length (classes (automatonOf t)) = c .before .class-count .ensures ∙ ap₂ (λ q k. length (lists q k)) w w₂ in
     record { readable = e .pre .0; labels = labels-held t (e .args .flat .now) _ (e .pre .0) (e .pre .1) held; count = counted }
 
-same-length : tie.Need-same-length
-same-length c = search needs
-
 returns : tie.Need-returns
 returns c =
     let e = c .before .before .before .before .before .before .before .before .before .before .before in
@@ -50,10 +36,10 @@ pub classes-start-spec : {M : Type 1} → statement M
 classes-start-spec =
     tie.close
     (tie.spec
-    registers-requires
-    constants-requires
+    (λ c κs. search needs)
+    (λ c κs. search needs)
     fill-classes-requires
     class-count-requires
     has-start-requires
-    same-length
+    (λ c. search needs)
     returns)

@@ -8,25 +8,12 @@ use Rattle.opening.specs.Opening.{labelsOf}
 use Rattle.opening.proofs.Opened.{read-readable, opened, no-start, not-read}
 use Rattle.opening.proofs.open_table.Statement.{statement}
 use Rattle.opening.proofs.open_table.Tie as tie
-use Rattle.opening.proofs.open_table.Reads as reads
-use Rattle.opening.proofs.open_table.Lts as lts
-use Rattle.reader.proofs.read_table.Reads as read-table-reads
-use Rattle.opening.proofs.classes_start.Reads as classes-start-reads
-
-read-table-requires : tie.Need-read-table-requires
-read-table-requires c κs = search needs
-
-enum-told : tie.Need-enum-told
-enum-told c = search needs
 
 slice-aggregate-classes-start : tie.Need-slice-aggregate-classes-start
 slice-aggregate-classes-start c =
     let s = c .before .before .before .before .before .before .args .s .now in
     let r = c .before .before .before .read-table in
     sym (read-readable s _ (told (readTable s) _ _ _ (r .ensures .0) (r .ensures .1) (c .before .enum-told .given .1)) .long)
-
-slice-aggregate-classes-start-2 : tie.Need-slice-aggregate-classes-start-2
-slice-aggregate-classes-start-2 c = search needs
 
 classes-start-requires : tie.Need-classes-start-requires
 classes-start-requires c κs =
@@ -50,9 +37,6 @@ returns-2 c =
     let o = no-start (e .s .now) _ (told (readTable (e .s .now)) _ _ _ (r .ensures .0) (r .ensures .1) (c .before .before .before .before .before .enum-told .given .1)) (sym (w .ensures .0) ∙ c .if1 .left) in
     (sym (ap replyOf o), sym (ap (λ x. formOf x (e .form .now)) o), sym (ap (λ x. labelsOf x (e .labels .now)) o))
 
-enum-told-2 : tie.Need-enum-told-2
-enum-told-2 c = search needs
-
 returns-3 : tie.Need-returns-3
 returns-3 c =
     let e = c .before .before .before .before .before .args in
@@ -63,12 +47,12 @@ pub open-table-spec : {M : Type 1} → statement M
 open-table-spec =
     tie.close
     (tie.spec
-    read-table-requires
-    enum-told
+    (λ c κs. search needs)
+    (λ c. search needs)
     slice-aggregate-classes-start
-    slice-aggregate-classes-start-2
+    (λ c. search needs)
     classes-start-requires
     returns
     returns-2
-    enum-told-2
+    (λ c. search needs)
     returns-3)

@@ -5,30 +5,6 @@ use Rattle.fields.specs.Machine.{onEnd}
 use Rattle.questions.proofs.end_line.Statement.{statement}
 use Rattle.questions.proofs.end_line.Tie as tie
 
-close-requires : tie.Need-close-requires
-close-requires c κs = search needs
-
-judge-line-requires : tie.Need-judge-line-requires
-judge-line-requires c κs = search needs
-
-with-line-requires : tie.Need-with-line-requires
-with-line-requires c κs = search needs
-
-array-read-put-row : tie.Need-array-read-put-row
-array-read-put-row c = search needs
-
-array-read-put-row-2 : tie.Need-array-read-put-row-2
-array-read-put-row-2 c = search needs
-
-array-read-put-row-3 : tie.Need-array-read-put-row-3
-array-read-put-row-3 c = search needs
-
-put-row-requires : tie.Need-put-row-requires
-put-row-requires c κs = search needs
-
-same-length : tie.Need-same-length
-same-length c = search needs
-
 returns : tie.Need-returns
 unfolding onEnd
 returns c =
@@ -43,13 +19,13 @@ pub end-line-spec : {M : Type 1} → statement M
 end-line-spec =
     tie.close
     (tie.spec
-    close-requires
-    judge-line-requires
-    with-line-requires
-    array-read-put-row
-    array-read-put-row-2
-    array-read-put-row-3
-    put-row-requires
-    same-length
+    (λ c κs. search needs)
+    (λ c κs. search needs)
+    (λ c κs. search needs)
+    (λ c. search needs)
+    (λ c. search needs)
+    (λ c. search needs)
+    (λ c κs. search needs)
+    (λ c. search needs)
     returns
     returns-2)

@@ -6,21 +6,9 @@ use Rattle.fields.proofs.LineFiles.{byte-lines}
 use Rattle.questions.proofs.feed.Statement.{statement}
 use Rattle.questions.proofs.feed.Tie as tie
 
-ends-line-requires : tie.Need-ends-line-requires
-ends-line-requires c κs = search needs
-
-end-line-requires : tie.Need-end-line-requires
-end-line-requires c κs = search needs
-
-same-length : tie.Need-same-length
-same-length c = search needs
-
 returns : tie.Need-returns
 unfolding fed
 returns c = simp (sym (c .before .before .before .before .before .ends-line .ensures) ∙ c .before .before .before .before .if1 .taken) (c .before .before .end-line .ensures)
-
-with-byte-requires : tie.Need-with-byte-requires
-with-byte-requires c κs = search needs
 
 returns-2 : tie.Need-returns-2
 unfolding fed
@@ -30,9 +18,9 @@ pub feed-spec : {M : Type 1} → statement M
 feed-spec =
     tie.close
     (tie.spec
-    ends-line-requires
-    end-line-requires
-    same-length
+    (λ c κs. search needs)
+    (λ c κs. search needs)
+    (λ c. search needs)
     returns
-    with-byte-requires
+    (λ c κs. search needs)
     returns-2)

@@ -5,33 +5,6 @@ use borrow.Author.Needs.{needs}
 use Rattle.questions.proofs.judge_field.Statement.{statement}
 use Rattle.questions.proofs.judge_field.Tie as tie
 
-enum-told : tie.Need-enum-told
-enum-told c = search needs
-
-judge-number-requires : tie.Need-judge-number-requires
-judge-number-requires c κs = search needs
-
-enum-told-2 : tie.Need-enum-told-2
-enum-told-2 c = search needs
-
-judge-number-requires-2 : tie.Need-judge-number-requires-2
-judge-number-requires-2 c κs = search needs
-
-enum-told-3 : tie.Need-enum-told-3
-enum-told-3 c = search needs
-
-judge-number-requires-3 : tie.Need-judge-number-requires-3
-judge-number-requires-3 c κs = search needs
-
-enum-told-4 : tie.Need-enum-told-4
-enum-told-4 c = search needs
-
-judge-number-requires-4 : tie.Need-judge-number-requires-4
-judge-number-requires-4 c κs = search needs
-
-enum-told-5 : tie.Need-enum-told-5
-enum-told-5 c = search needs
-
 returns : tie.Need-returns
 unfolding judgeField
 returns c = rw (c .before .enum-told5 .given .1) (simp (eq-eqb _ _ (c .if1 .taken)))
@@ -60,15 +33,15 @@ pub judge-field-spec : {M : Type 1} → statement M
 judge-field-spec =
     tie.close
     (tie.spec
-    enum-told
-    judge-number-requires
-    enum-told-2
-    judge-number-requires-2
-    enum-told-3
-    judge-number-requires-3
-    enum-told-4
-    judge-number-requires-4
-    enum-told-5
+    (λ c. search needs)
+    (λ c κs. search needs)
+    (λ c. search needs)
+    (λ c κs. search needs)
+    (λ c. search needs)
+    (λ c κs. search needs)
+    (λ c. search needs)
+    (λ c κs. search needs)
+    (λ c. search needs)
     returns
     returns-2
     returns-3

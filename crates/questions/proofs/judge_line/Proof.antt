@@ -5,18 +5,6 @@ use Rattle.questions.specs.QuestionRules.{judgeFields}
 use Rattle.questions.proofs.judge_line.Statement.{statement}
 use Rattle.questions.proofs.judge_line.Tie as tie
 
-array-read-judge-row : tie.Need-array-read-judge-row
-array-read-judge-row c = search needs
-
-array-read-judge-row-2 : tie.Need-array-read-judge-row-2
-array-read-judge-row-2 c = search needs
-
-array-read-judge-row-3 : tie.Need-array-read-judge-row-3
-array-read-judge-row-3 c = search needs
-
-judge-row-requires : tie.Need-judge-row-requires
-judge-row-requires c κs = search needs
-
 returns : tie.Need-returns
 unfolding judgeFields
 returns c = simp (c .before .before .before .if1 .taken, eq-eqb _ _ (c .before .if2 .taken)) (c .judge-row .ensures)
@@ -32,10 +20,10 @@ pub judge-line-spec : {M : Type 1} → statement M
 judge-line-spec =
     tie.close
     (tie.spec
-    array-read-judge-row
-    array-read-judge-row-2
-    array-read-judge-row-3
-    judge-row-requires
+    (λ c. search needs)
+    (λ c. search needs)
+    (λ c. search needs)
+    (λ c κs. search needs)
     returns
     returns-2
     returns-3)

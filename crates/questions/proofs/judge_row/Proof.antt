@@ -6,15 +6,6 @@ use Rattle.questions.proofs.RowShapes.{judge-shape}
 use Rattle.questions.proofs.judge_row.Statement.{statement}
 use Rattle.questions.proofs.judge_row.Tie as tie
 
-shape-of-requires : tie.Need-shape-of-requires
-shape-of-requires c κs = search needs
-
-judge-field-requires : tie.Need-judge-field-requires
-judge-field-requires c κs = search needs
-
-judge-field-requires-2 : tie.Need-judge-field-requires-2
-judge-field-requires-2 c κs = search needs
-
 returns : tie.Need-returns
 returns c =
     let a = c .before .before .before .before .before .args in
@@ -35,9 +26,9 @@ pub judge-row-spec : {M : Type 1} → statement M
 judge-row-spec =
     tie.close
     (tie.spec
-    shape-of-requires
-    judge-field-requires
-    judge-field-requires-2
+    (λ c κs. search needs)
+    (λ c κs. search needs)
+    (λ c κs. search needs)
     returns
     returns-2
     returns-3)

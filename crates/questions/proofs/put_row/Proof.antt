@@ -8,27 +8,6 @@ use borrow.Author.Needs.{needs}
 use Rattle.questions.proofs.put_row.Statement.{statement}
 use Rattle.questions.proofs.put_row.Tie as tie
 
-mul-i : tie.Need-mul-i
-mul-i c = search needs
-
-store-requires : tie.Need-store-requires
-store-requires c κs = search needs
-
-add-store : tie.Need-add-store
-add-store c = search needs
-
-store-requires-2 : tie.Need-store-requires-2
-store-requires-2 c κs = search needs
-
-add-store-2 : tie.Need-add-store-2
-add-store-2 c = search needs
-
-store-requires-3 : tie.Need-store-requires-3
-store-requires-3 c κs = search needs
-
-same-length : tie.Need-same-length
-same-length c = search needs
-
 returns : tie.Need-returns
 unfolding put
 returns c =
@@ -41,11 +20,11 @@ pub put-row-spec : {M : Type 1} → statement M
 put-row-spec =
     tie.close
     (tie.spec
-    mul-i
-    store-requires
-    add-store
-    store-requires-2
-    add-store-2
-    store-requires-3
-    same-length
+    (λ c. search needs)
+    (λ c κs. search needs)
+    (λ c. search needs)
+    (λ c κs. search needs)
+    (λ c. search needs)
+    (λ c κs. search needs)
+    (λ c. search needs)
     returns)

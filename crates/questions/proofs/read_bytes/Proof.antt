@@ -18,20 +18,11 @@ Inv-loop c s t₀ r₀ i₀ t r i = (i ≤ length s) × (run (questionRules c) (
 abbrev μ-loop : tie.MeasureT-loop
 μ-loop c s t₀ r₀ i₀ t r i = length s - i
 
-between-lines-requires : tie.Need-between-lines-requires Inv-loop μ-loop
-between-lines-requires c κs = search needs
-
 loop-holds : tie.Need-loop-holds Inv-loop μ-loop
 loop-holds c = (omega arith, refl, rw (c .between-lines .ensures) (omega arith), refl)
 
-shared-slice-read-feed : tie.Need-shared-slice-read-feed Inv-loop μ-loop
-shared-slice-read-feed c = search needs
-
 feed-requires : tie.Need-feed-requires Inv-loop μ-loop
 feed-requires c κs = omega arith
-
-add-i : tie.Need-add-i Inv-loop μ-loop
-add-i c = search needs
 
 loop-less : tie.Need-loop-less Inv-loop μ-loop
 loop-less c = omega arith
@@ -65,11 +56,11 @@ read-bytes-spec =
     (tie.spec
     Inv-loop
     μ-loop
-    between-lines-requires
+    (λ c κs. search needs)
     loop-holds
-    shared-slice-read-feed
+    (λ c. search needs)
     feed-requires
-    add-i
+    (λ c. search needs)
     loop-less
     loop-again
     same-length

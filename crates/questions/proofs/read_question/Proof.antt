@@ -13,18 +13,6 @@ returns c =
     let e = read-long (questionRules (counts (a .registers) (a .constants) (a .locations))) 2 608 nothingRead (a .s .now) (c .if1 .taken) in
     (rw e, rw e)
 
-slice-aggregate-read-bytes : tie.Need-slice-aggregate-read-bytes
-slice-aggregate-read-bytes c = search needs
-
-read-bytes-requires : tie.Need-read-bytes-requires
-read-bytes-requires c κs = search needs
-
-at-end-requires : tie.Need-at-end-requires
-at-end-requires c κs = search needs
-
-cast-t17 : tie.Need-cast-t17
-cast-t17 c = search needs
-
 returns-2 : tie.Need-returns-2
 unfolding readQuestion
 returns-2 c =
@@ -34,9 +22,6 @@ returns-2 c =
     read-accepted (questionRules (counts (a .registers) (a .constants) (a .locations))) 2 608 nothingRead (a .s .now) (reading (d .result) (d .last .1 .1 .0))
     (c .before .before .before .before .before .if1 .left) (d .ensures .0) (c .before .at-end .result) (c .before .at-end .ensures) (c .if2 .taken) in
     (rw e, rw e)
-
-add-t18 : tie.Need-add-t18
-add-t18 c = search needs
 
 returns-3 : tie.Need-returns-3
 unfolding readQuestion
@@ -53,10 +38,10 @@ read-question-spec =
     tie.close
     (tie.spec
     returns
-    slice-aggregate-read-bytes
-    read-bytes-requires
-    at-end-requires
-    cast-t17
+    (λ c. search needs)
+    (λ c κs. search needs)
+    (λ c κs. search needs)
+    (λ c. search needs)
     returns-2
-    add-t18
+    (λ c. search needs)
     returns-3)

@@ -5,21 +5,6 @@ use Rattle.fields.specs.Machine.{onEnd}
 use Rattle.reader.proofs.end_line.Statement.{statement}
 use Rattle.reader.proofs.end_line.Tie as tie
 
-close-requires : tie.Need-close-requires
-close-requires c κs = search needs
-
-judge-line-requires : tie.Need-judge-line-requires
-judge-line-requires c κs = search needs
-
-with-line-requires : tie.Need-with-line-requires
-with-line-requires c κs = search needs
-
-accept-requires : tie.Need-accept-requires
-accept-requires c κs = search needs
-
-same-length : tie.Need-same-length
-same-length c = search needs
-
 returns : tie.Need-returns
 unfolding onEnd
 returns c =
@@ -34,10 +19,10 @@ pub end-line-spec : {M : Type 1} → statement M
 end-line-spec =
     tie.close
     (tie.spec
-    close-requires
-    judge-line-requires
-    with-line-requires
-    accept-requires
-    same-length
+    (λ c κs. search needs)
+    (λ c κs. search needs)
+    (λ c κs. search needs)
+    (λ c κs. search needs)
+    (λ c. search needs)
     returns
     returns-2)

@@ -6,66 +6,6 @@ use Rattle.reader.proofs.Bounds.{other}
 use Rattle.reader.proofs.has_range.Statement.{statement}
 use Rattle.reader.proofs.has_range.Tie as tie
 
-array-read-a : tie.Need-array-read-a
-array-read-a c = search needs
-
-array-read-b : tie.Need-array-read-b
-array-read-b c = search needs
-
-array-read-c : tie.Need-array-read-c
-array-read-c c = search needs
-
-array-read-d : tie.Need-array-read-d
-array-read-d c = search needs
-
-array-read-e : tie.Need-array-read-e
-array-read-e c = search needs
-
-array-read-match : tie.Need-array-read-match
-array-read-match c = search needs
-
-in-count-requires : tie.Need-in-count-requires
-in-count-requires c κs = search needs
-
-in-count-requires-2 : tie.Need-in-count-requires-2
-in-count-requires-2 c κs = search needs
-
-in-count-requires-3 : tie.Need-in-count-requires-3
-in-count-requires-3 c κs = search needs
-
-has-term-requires : tie.Need-has-term-requires
-has-term-requires c κs = search needs
-
-in-count-requires-4 : tie.Need-in-count-requires-4
-in-count-requires-4 c κs = search needs
-
-has-term-requires-2 : tie.Need-has-term-requires-2
-has-term-requires-2 c κs = search needs
-
-in-count-requires-5 : tie.Need-in-count-requires-5
-in-count-requires-5 c κs = search needs
-
-in-count-requires-6 : tie.Need-in-count-requires-6
-in-count-requires-6 c κs = search needs
-
-in-count-requires-7 : tie.Need-in-count-requires-7
-in-count-requires-7 c κs = search needs
-
-has-term-requires-3 : tie.Need-has-term-requires-3
-has-term-requires-3 c κs = search needs
-
-in-count-requires-8 : tie.Need-in-count-requires-8
-in-count-requires-8 c κs = search needs
-
-has-term-requires-4 : tie.Need-has-term-requires-4
-has-term-requires-4 c κs = search needs
-
-in-count-requires-9 : tie.Need-in-count-requires-9
-in-count-requires-9 c κs = search needs
-
-has-term-requires-5 : tie.Need-has-term-requires-5
-has-term-requires-5 c κs = search needs
-
 returns : tie.Need-returns
 unfolding inRange
 returns c = rw (c .before .before .match .keys1) (simp (c .in-count2 .ensures, c .before .in-count .ensures))
@@ -106,26 +46,26 @@ pub has-range-spec : {M : Type 1} → statement M
 has-range-spec =
     tie.close
     (tie.spec
-    array-read-a
-    array-read-b
-    array-read-c
-    array-read-d
-    array-read-e
-    array-read-match
-    in-count-requires
-    in-count-requires-2
-    in-count-requires-3
-    has-term-requires
-    in-count-requires-4
-    has-term-requires-2
-    in-count-requires-5
-    in-count-requires-6
-    in-count-requires-7
-    has-term-requires-3
-    in-count-requires-8
-    has-term-requires-4
-    in-count-requires-9
-    has-term-requires-5
+    (λ c. search needs)
+    (λ c. search needs)
+    (λ c. search needs)
+    (λ c. search needs)
+    (λ c. search needs)
+    (λ c. search needs)
+    (λ c κs. search needs)
+    (λ c κs. search needs)
+    (λ c κs. search needs)
+    (λ c κs. search needs)
+    (λ c κs. search needs)
+    (λ c κs. search needs)
+    (λ c κs. search needs)
+    (λ c κs. search needs)
+    (λ c κs. search needs)
+    (λ c κs. search needs)
+    (λ c κs. search needs)
+    (λ c κs. search needs)
+    (λ c κs. search needs)
+    (λ c κs. search needs)
     returns
     returns-2
     returns-3

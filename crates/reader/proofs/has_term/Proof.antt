@@ -4,19 +4,10 @@ use Rattle.reader.proofs.has_term.Statement.{statement}
 use Rattle.reader.specs.TableRules.{hasTerm}
 use Rattle.reader.proofs.has_term.Tie as tie
 
-in-count-requires : tie.Need-in-count-requires
-in-count-requires c κs = search needs
-
-in-count-requires-2 : tie.Need-in-count-requires-2
-in-count-requires-2 c κs = search needs
-
-in-count-requires-3 : tie.Need-in-count-requires-3
-in-count-requires-3 c κs = search needs
-
 returns : tie.Need-returns
 unfolding hasTerm
 returns c = simp (c .in-count3 .ensures, c .before .in-count2 .ensures, c .before .before .in-count .ensures)
 
 pub has-term-spec : {M : Type 1} → statement M
 has-term-spec =
-    tie.close (tie.spec in-count-requires in-count-requires-2 in-count-requires-3 returns)
+    tie.close (tie.spec (λ c κs. search needs) (λ c κs. search needs) (λ c κs. search needs) returns)

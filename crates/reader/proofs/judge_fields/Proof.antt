@@ -5,21 +5,6 @@ use Rattle.reader.specs.TableRules.{judgeLine}
 use Rattle.reader.proofs.judge_fields.Statement.{statement}
 use Rattle.reader.proofs.judge_fields.Tie as tie
 
-array-read-kind-at : tie.Need-array-read-kind-at
-array-read-kind-at c = search needs
-
-array-read-kind-at-2 : tie.Need-array-read-kind-at-2
-array-read-kind-at-2 c = search needs
-
-kind-at-requires : tie.Need-kind-at-requires
-kind-at-requires c κs = search needs
-
-may-stand-requires : tie.Need-may-stand-requires
-may-stand-requires c κs = search needs
-
-judge-values-requires : tie.Need-judge-values-requires
-judge-values-requires c κs = search needs
-
 returns : tie.Need-returns
 unfolding judgeLine
 returns c = simp (← c .before .before .before .kind-at .ensures, sym (c .before .before .may-stand .ensures) ∙ c .before .if1 .taken) (c .judge-values .ensures)
@@ -32,10 +17,10 @@ pub judge-fields-spec : {M : Type 1} → statement M
 judge-fields-spec =
     tie.close
     (tie.spec
-    array-read-kind-at
-    array-read-kind-at-2
-    kind-at-requires
-    may-stand-requires
-    judge-values-requires
+    (λ c. search needs)
+    (λ c. search needs)
+    (λ c κs. search needs)
+    (λ c κs. search needs)
+    (λ c κs. search needs)
     returns
     returns-2)

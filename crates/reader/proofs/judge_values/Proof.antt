@@ -10,12 +10,6 @@ returns : tie.Need-returns
 unfolding judgeValues
 returns c = simp (c .if1 .taken)
 
-has-range-requires : tie.Need-has-range-requires
-has-range-requires c κs = search needs
-
-array-read-if3 : tie.Need-array-read-if3
-array-read-if3 c = search needs
-
 returns-2 : tie.Need-returns-2
 unfolding judgeValues
 returns-2 c = simp (c .before .before .before .before .before .before .before .if1 .left, sym (c .before .before .before .before .before .before .has-range .ensures) ∙ c .before .before .before .before .before .if2 .taken, c .if3 .taken)
@@ -23,9 +17,6 @@ returns-2 c = simp (c .before .before .before .before .before .before .before .i
 returns-3 : tie.Need-returns-3
 unfolding judgeValues
 returns-3 c = simp (c .before .before .before .before .before .before .before .if1 .left, sym (c .before .before .before .before .before .before .has-range .ensures) ∙ c .before .before .before .before .before .if2 .taken, c .if3 .left)
-
-array-read-if4 : tie.Need-array-read-if4
-array-read-if4 c = search needs
 
 returns-4 : tie.Need-returns-4
 unfolding judgeValues
@@ -40,10 +31,10 @@ judge-values-spec =
     tie.close
     (tie.spec
     returns
-    has-range-requires
-    array-read-if3
+    (λ c κs. search needs)
+    (λ c. search needs)
     returns-2
     returns-3
-    array-read-if4
+    (λ c. search needs)
     returns-4
     returns-5)

@@ -8,80 +8,8 @@ use Rattle.reader.proofs.Bounds.{other}
 use Rattle.reader.proofs.kind_at.Statement.{statement}
 use Rattle.reader.proofs.kind_at.Tie as tie
 
-cast-ids : tie.Need-cast-ids
-cast-ids c = search needs
-
-cast-acts : tie.Need-cast-acts
-cast-acts c = search needs
-
-cast-conds : tie.Need-cast-conds
-cast-conds c = search needs
-
-cast-rows : tie.Need-cast-rows
-cast-rows c = search needs
-
-mul-rows : tie.Need-mul-rows
-mul-rows c = search needs
-
-cast-place : tie.Need-cast-place
-cast-place c = search needs
-
-mul-place : tie.Need-mul-place
-mul-place c = search needs
-
-kind-with-requires : tie.Need-kind-with-requires
-kind-with-requires c κs = search needs
-
-kind-with-requires-2 : tie.Need-kind-with-requires-2
-kind-with-requires-2 c κs = search needs
-
-add-kind-with : tie.Need-add-kind-with
-add-kind-with c = search needs
-
-kind-with-requires-3 : tie.Need-kind-with-requires-3
-kind-with-requires-3 c κs = search needs
-
-add-kind-with-2 : tie.Need-add-kind-with-2
-add-kind-with-2 c = search needs
-
-kind-with-requires-4 : tie.Need-kind-with-requires-4
-kind-with-requires-4 c κs = search needs
-
-kind-with-requires-5 : tie.Need-kind-with-requires-5
-kind-with-requires-5 c κs = search needs
-
-add-kind-with-3 : tie.Need-add-kind-with-3
-add-kind-with-3 c = search needs
-
-kind-with-requires-6 : tie.Need-kind-with-requires-6
-kind-with-requires-6 c κs = search needs
-
-add-kind-with-4 : tie.Need-add-kind-with-4
-add-kind-with-4 c = search needs
-
-kind-with-requires-7 : tie.Need-kind-with-requires-7
-kind-with-requires-7 c κs = search needs
-
-add-kind-with-5 : tie.Need-add-kind-with-5
-add-kind-with-5 c = search needs
-
-add-kind-with-6 : tie.Need-add-kind-with-6
-add-kind-with-6 c = search needs
-
-kind-with-requires-8 : tie.Need-kind-with-requires-8
-kind-with-requires-8 c κs = search needs
-
-add-kind-with-7 : tie.Need-add-kind-with-7
-add-kind-with-7 c = search needs
-
 add-kind-with-8 : tie.Need-add-kind-with-8
 add-kind-with-8 c = let h : Fits w32 (c .before .before .before .before .before .before .before .before .before .before .before .args .n) = search needs in omega arith
-
-sub-kind-with : tie.Need-sub-kind-with
-sub-kind-with c = search needs
-
-kind-with-requires-9 : tie.Need-kind-with-requires-9
-kind-with-requires-9 c κs = search needs
 
 returns : tie.Need-returns
 unfolding kindAt
@@ -123,31 +51,31 @@ pub kind-at-spec : {M : Type 1} → statement M
 kind-at-spec =
     tie.close
     (tie.spec
-    cast-ids
-    cast-acts
-    cast-conds
-    cast-rows
-    mul-rows
-    cast-place
-    mul-place
-    kind-with-requires
-    add-kind-with
-    kind-with-requires-2
-    add-kind-with-2
-    kind-with-requires-3
-    kind-with-requires-4
-    add-kind-with-3
-    kind-with-requires-5
-    add-kind-with-4
-    kind-with-requires-6
-    add-kind-with-5
-    add-kind-with-6
-    kind-with-requires-7
-    add-kind-with-7
+    (λ c. search needs)
+    (λ c. search needs)
+    (λ c. search needs)
+    (λ c. search needs)
+    (λ c. search needs)
+    (λ c. search needs)
+    (λ c. search needs)
+    (λ c κs. search needs)
+    (λ c. search needs)
+    (λ c κs. search needs)
+    (λ c. search needs)
+    (λ c κs. search needs)
+    (λ c κs. search needs)
+    (λ c. search needs)
+    (λ c κs. search needs)
+    (λ c. search needs)
+    (λ c κs. search needs)
+    (λ c. search needs)
+    (λ c. search needs)
+    (λ c κs. search needs)
+    (λ c. search needs)
     add-kind-with-8
-    sub-kind-with
-    kind-with-requires-8
-    kind-with-requires-9
+    (λ c. search needs)
+    (λ c κs. search needs)
+    (λ c κs. search needs)
     returns
     returns-2
     returns-3

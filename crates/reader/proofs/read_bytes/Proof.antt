@@ -23,14 +23,8 @@ Inv-loop s t₀ r₀ i₀ t r i = (i ≤ length s) × (run tableRules (reading r
 abbrev μ-loop : tie.MeasureT-loop
 μ-loop s t₀ r₀ i₀ t r i = length s - i
 
-between-lines-requires : tie.Need-between-lines-requires Inv-loop μ-loop
-between-lines-requires c κs = search needs
-
 loop-holds : tie.Need-loop-holds Inv-loop μ-loop
 loop-holds c = (omega arith, refl, rw (c .between-lines .ensures) (omega arith, c .before .before .before .pre .1), refl)
-
-shared-slice-read-feed : tie.Need-shared-slice-read-feed Inv-loop μ-loop
-shared-slice-read-feed c = search needs
 
 feed-requires : tie.Need-feed-requires Inv-loop μ-loop
 feed-requires c κs = let v = c .before .before .before .loop in (small-weaken (v .r .progress) (v .r .lines .lines) 50000 (omega arith) (v .inv .2 .1), omega arith)
@@ -72,9 +66,9 @@ read-bytes-spec =
     (tie.spec
     Inv-loop
     μ-loop
-    between-lines-requires
+    (λ c κs. search needs)
     loop-holds
-    shared-slice-read-feed
+    (λ c. search needs)
     feed-requires
     add-i
     loop-less

@@ -15,18 +15,6 @@ returns c =
     let e = read-long tableRules (a .file) (a .limit) begun (a .s .now) (c .if1 .taken) in
     (rw e, rw e)
 
-slice-aggregate-read-bytes : tie.Need-slice-aggregate-read-bytes
-slice-aggregate-read-bytes c = search needs
-
-read-bytes-requires : tie.Need-read-bytes-requires
-read-bytes-requires c κs = search needs
-
-is-complete-requires : tie.Need-is-complete-requires
-is-complete-requires c κs = search needs
-
-at-end-requires : tie.Need-at-end-requires
-at-end-requires c κs = search needs
-
 returns-2 : tie.Need-returns-2
 returns-2 c =
     let a = c .before .before .before .before .before .before .before .before .before .args in
@@ -37,9 +25,6 @@ returns-2 c =
     read-accepted tableRules (a .file) (a .limit) begun (a .s .now) (reading (d .result) (d .last .1 .1 .0)) (c .before .before .before .before .before .before .before .if1 .left) (d .ensures .0)
     (g .result) (g .ensures ∙ ap (verdict (d .result .lines)) (c .before .before .is-complete .ensures)) (c .if2 .taken) in
     (rw e, rw e)
-
-add-t16 : tie.Need-add-t16
-add-t16 c = search needs
 
 returns-3 : tie.Need-returns-3
 returns-3 c =
@@ -57,10 +42,10 @@ read-file-spec =
     tie.close
     (tie.spec
     returns
-    slice-aggregate-read-bytes
-    read-bytes-requires
-    is-complete-requires
-    at-end-requires
+    (λ c. search needs)
+    (λ c κs. search needs)
+    (λ c κs. search needs)
+    (λ c κs. search needs)
     returns-2
-    add-t16
+    (λ c. search needs)
     returns-3)

@@ -15,53 +15,22 @@ use Rattle.replay.proofs.StepWalk.{advanced-bad, advanced-stops, advanc
 use borrow.Author.Needs.{needs}
 use Rattle.replay.proofs.advance.Statement.{statement}
 use Rattle.replay.proofs.advance.Tie as tie
-use Rattle.replay.proofs.advance.Reads as reads
-use Rattle.replay.proofs.advance.Lts as lts
-use Rattle.forms.proofs.arc_at.Reads as arc-at-reads
-use Rattle.forms.proofs.constant_values.Reads as constant-values-reads
-use Rattle.forms.proofs.registers.Reads as registers-reads
-use Rattle.forms.proofs.transitions.Reads as transitions-reads
-use Rattle.replay.proofs.made.Reads as made-reads
-use Rattle.replay.proofs.place_of.Reads as place-of-reads
-use Rattle.replay.proofs.stop.Reads as stop-reads
-use Rattle.replay.proofs.wide.Reads as wide-reads
 
 returns : tie.Need-returns
 returns c = advanced-bad _ _ _ _ (c .if1 .taken)
-
-wide-requires : tie.Need-wide-requires
-wide-requires c κs = search needs
-
-stop-requires : tie.Need-stop-requires
-stop-requires c κs = search needs
 
 returns-2 : tie.Need-returns-2
 returns-2 c = let e = c .before .before .before .before .before in
     c .stop .ensures ∙ advanced-stops _ _ _ _ (c .before .before .before .if1 .left) (step-out (automatonOf (e .args .form .now)) _ (e .args .s) (λ l h. omega (arith, c .before .before .wide .ensures, c .before .if2 .taken)))
 
-transitions-requires : tie.Need-transitions-requires
-transitions-requires c κs = search needs
-
-stop-requires-2 : tie.Need-stop-requires-2
-stop-requires-2 c κs = search needs
-
 returns-3 : tie.Need-returns-3
 returns-3 c = let e = c .before .before .before .before .before .before .before in
     c .stop2 .ensures ∙ advanced-stops _ _ _ _ (c .before .before .before .before .before .if1 .left) (step-out (automatonOf (e .args .form .now)) _ (e .args .s) (λ l h. omega (arith, c .before .before .before .before .wide .ensures, c .before .before .transitions .ensures .0, c .before .if3 .taken)))
-
-sub-arc-at : tie.Need-sub-arc-at
-sub-arc-at c = search needs
 
 arc-at-requires : tie.Need-arc-at-requires
 arc-at-requires c κs =
     let e = c .before .before .before .before .before .before in
     (e .pre, omega (arith, c .before .transitions .ensures .0, c .before .before .if2 .left, c .if3 .left))
-
-constant-values-requires : tie.Need-constant-values-requires
-constant-values-requires c κs = search needs
-
-registers-requires : tie.Need-registers-requires
-registers-requires c κs = search needs
 
 made-requires : tie.Need-made-requires
 made-requires c κs =
@@ -70,12 +39,6 @@ made-requires c κs =
     let x = c .before .before .before .before .before .before .before .wide .result - 1 in
     let i : x < length (automatonOf t .transitions) = omega (arith, c .before .before .before .before .before .transitions .ensures .0, c .before .before .before .before .before .before .if2 .left, c .before .before .before .before .if3 .left) in
     subst Fits (sym (c .before .before .before .arc-at .ensures)) (arc-fits t (e .pre) x i)
-
-place-of-requires : tie.Need-place-of-requires
-place-of-requires c κs = search needs
-
-stop-requires-3 : tie.Need-stop-requires-3
-stop-requires-3 c κs = search needs
 
 -- what `made` says, and where the transition leads
 tested : (c : tie.After-made)
@@ -106,18 +69,18 @@ advance-spec =
     tie.close
     (tie.spec
     returns
-    wide-requires
-    stop-requires
+    (λ c κs. search needs)
+    (λ c κs. search needs)
     returns-2
-    transitions-requires
-    stop-requires-2
+    (λ c κs. search needs)
+    (λ c κs. search needs)
     returns-3
-    sub-arc-at
+    (λ c. search needs)
     arc-at-requires
-    constant-values-requires
-    registers-requires
+    (λ c κs. search needs)
+    (λ c κs. search needs)
     made-requires
-    place-of-requires
-    stop-requires-3
+    (λ c κs. search needs)
+    (λ c κs. search needs)
     returns-4
     returns-5)

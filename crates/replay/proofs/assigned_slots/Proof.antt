@@ -21,20 +21,8 @@ abbrev μ-loop : tie.MeasureT-loop
 loop-holds : tie.Need-loop-holds Inv-loop μ-loop
 loop-holds c = (omega arith, all-start _ _ 0)
 
-array-read-assigned : tie.Need-array-read-assigned Inv-loop μ-loop
-array-read-assigned c = search needs
-
-array-read-assigned-2 : tie.Need-array-read-assigned-2 Inv-loop μ-loop
-array-read-assigned-2 c = search needs
-
 assigned-requires : tie.Need-assigned-requires Inv-loop μ-loop
 assigned-requires c κs = let e = c .before .before in let i = c .before .loop .i in (e .pre .1 i, e .pre .2 i)
-
-add-i : tie.Need-add-i Inv-loop μ-loop
-add-i c = search needs
-
-loop-less : tie.Need-loop-less Inv-loop μ-loop
-loop-less c = search needs
 
 loop-again : tie.Need-loop-again Inv-loop μ-loop
 loop-again c =
@@ -54,11 +42,11 @@ assigned-slots-spec =
     Inv-loop
     μ-loop
     loop-holds
-    array-read-assigned
-    array-read-assigned-2
+    (λ c. search needs)
+    (λ c. search needs)
     assigned-requires
-    add-i
-    loop-less
+    (λ c. search needs)
+    (λ c. search needs)
     loop-again
     returns
     returns-2)

@@ -19,44 +19,14 @@ Inv-loop form run p₀ moment₀ i₀ p moment i = (5 ≤ i) × (i ≤ length ru
 abbrev μ-loop : tie.MeasureT-loop
 μ-loop form run p₀ moment₀ i₀ p moment i = length run - i
 
-start-of-requires : tie.Need-start-of-requires Inv-loop μ-loop
-start-of-requires c κs = search needs
-
-started-requires : tie.Need-started-requires Inv-loop μ-loop
-started-requires c κs = search needs
-
 loop-holds : tie.Need-loop-holds Inv-loop μ-loop
 loop-holds c = (omega arith, omega arith, omega arith, omega arith, refl)
-
-add-moment : tie.Need-add-moment Inv-loop μ-loop
-add-moment c = search needs
-
-mul-step-of : tie.Need-mul-step-of Inv-loop μ-loop
-mul-step-of c = search needs
-
-sub-step-of : tie.Need-sub-step-of Inv-loop μ-loop
-sub-step-of c = search needs
-
-part-step-of-start : tie.Need-part-step-of-start Inv-loop μ-loop
-part-step-of-start c = search needs
-
-part-step-of-end : tie.Need-part-step-of-end Inv-loop μ-loop
-part-step-of-end c = search needs
 
 step-of-requires : tie.Need-step-of-requires Inv-loop μ-loop
 step-of-requires c κs =
     let l = c .before .before .loop in
     let xs = c .before .before .before .before .before .before .before .args .run .now in
     omega (arith, length-take (length xs - l .i) (drop (l .i) xs), length-drop (l .i) xs, c .before .loop-test .taken, l .inv)
-
-advance-requires : tie.Need-advance-requires Inv-loop μ-loop
-advance-requires c κs = search needs
-
-add-i : tie.Need-add-i Inv-loop μ-loop
-add-i c = search needs
-
-loop-less : tie.Need-loop-less Inv-loop μ-loop
-loop-less c = search needs
 
 loop-again : tie.Need-loop-again Inv-loop μ-loop
 loop-again c =
@@ -75,9 +45,6 @@ loop-again c =
           ∙ through-next (automatonOf t) (l .p) (l .moment + 1) (l .i) xs (l .inv .2) i ∙ l .inv .4,
     )
 
-verdict-of-requires : tie.Need-verdict-of-requires Inv-loop μ-loop
-verdict-of-requires c κs = search needs
-
 returns : tie.Need-returns Inv-loop μ-loop
 returns c =
     let l = c .before .before .loop in
@@ -94,18 +61,18 @@ replay-spec =
     (tie.spec
     Inv-loop
     μ-loop
-    start-of-requires
-    started-requires
+    (λ c κs. search needs)
+    (λ c κs. search needs)
     loop-holds
-    add-moment
-    mul-step-of
-    sub-step-of
-    part-step-of-start
-    part-step-of-end
+    (λ c. search needs)
+    (λ c. search needs)
+    (λ c. search needs)
+    (λ c. search needs)
+    (λ c. search needs)
     step-of-requires
-    advance-requires
-    add-i
-    loop-less
+    (λ c κs. search needs)
+    (λ c. search needs)
+    (λ c. search needs)
     loop-again
-    verdict-of-requires
+    (λ c κs. search needs)
     returns)

@@ -9,33 +9,6 @@ use borrow.Author.Needs.{needs}
 use Rattle.replay.proofs.step_of.Statement.{statement}
 use Rattle.replay.proofs.step_of.Tie as tie
 
-shared-slice-read-t5 : tie.Need-shared-slice-read-t5
-shared-slice-read-t5 c = search needs
-
-shared-slice-read-t7 : tie.Need-shared-slice-read-t7
-shared-slice-read-t7 c = search needs
-
-shared-slice-read-t9 : tie.Need-shared-slice-read-t9
-shared-slice-read-t9 c = search needs
-
-shared-slice-read-t5-2 : tie.Need-shared-slice-read-t5-2
-shared-slice-read-t5-2 c = search needs
-
-shared-slice-read-t9-2 : tie.Need-shared-slice-read-t9-2
-shared-slice-read-t9-2 c = search needs
-
-shared-slice-read-t7-2 : tie.Need-shared-slice-read-t7-2
-shared-slice-read-t7-2 c = search needs
-
-shared-slice-read-t14 : tie.Need-shared-slice-read-t14
-shared-slice-read-t14 c = search needs
-
-shared-slice-read-t16 : tie.Need-shared-slice-read-t16
-shared-slice-read-t16 c = search needs
-
-shared-slice-read-t5-3 : tie.Need-shared-slice-read-t5-3
-shared-slice-read-t5-3 c = search needs
-
 returns : tie.Need-returns
 returns c =
     let xs = c .before .before .before .before .before .before .before .before .before .args .run .now in
@@ -45,13 +18,13 @@ pub step-of-spec : {M : Type 1} → statement M
 step-of-spec =
     tie.close
     (tie.spec
-    shared-slice-read-t5
-    shared-slice-read-t7
-    shared-slice-read-t9
-    shared-slice-read-t5-2
-    shared-slice-read-t9-2
-    shared-slice-read-t7-2
-    shared-slice-read-t14
-    shared-slice-read-t16
-    shared-slice-read-t5-3
+    (λ c. search needs)
+    (λ c. search needs)
+    (λ c. search needs)
+    (λ c. search needs)
+    (λ c. search needs)
+    (λ c. search needs)
+    (λ c. search needs)
+    (λ c. search needs)
+    (λ c. search needs)
     returns)

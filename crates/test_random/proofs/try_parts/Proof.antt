@@ -6,18 +6,6 @@ use lib.Seq.{length-take-le}
 use borrow.Author.Needs.{needs}
 use Rattle.test_random.proofs.try_parts.Statement.{statement}
 use Rattle.test_random.proofs.try_parts.Tie as tie
-use Rattle.test_random.proofs.try_parts.Reads as reads
-use Rattle.test_random.proofs.try_parts.Lts as lts
-use Rattle.test_random.proofs.try_calls.Reads as try-calls-reads
-
-returns : tie.Need-returns
-returns c = search needs
-
-returns-2 : tie.Need-returns-2
-returns-2 c = search needs
-
-returns-3 : tie.Need-returns-3
-returns-3 c = search needs
 
 slice-aggregate-try-calls : tie.Need-slice-aggregate-try-calls
 slice-aggregate-try-calls c = sym (length-take-le {0} {A = ℕ} (c .before .before .before .before .before .before .before .args .t) (c .before .before .before .before .before .before .before .args .table .now) (search needs))
@@ -28,21 +16,15 @@ slice-aggregate-try-calls-2 c = sym (length-take-le {0} {A = ℕ} (c .before .be
 slice-aggregate-try-calls-3 : tie.Need-slice-aggregate-try-calls-3
 slice-aggregate-try-calls-3 c = sym (length-take-le {0} {A = ℕ} (c .before .before .before .before .before .before .before .before .before .args .q) (c .before .before .before .before .before .before .before .before .before .args .question .now) (search needs))
 
-try-calls-requires : tie.Need-try-calls-requires
-try-calls-requires c κs = search needs
-
-returns-4 : tie.Need-returns-4
-returns-4 c = search needs
-
 pub try-parts-spec : {M : Type 1} → statement M
 try-parts-spec =
     tie.close
     (tie.spec
-    returns
-    returns-2
-    returns-3
+    (λ c. search needs)
+    (λ c. search needs)
+    (λ c. search needs)
     slice-aggregate-try-calls
     slice-aggregate-try-calls-2
     slice-aggregate-try-calls-3
-    try-calls-requires
-    returns-4)
+    (λ c κs. search needs)
+    (λ c. search needs))

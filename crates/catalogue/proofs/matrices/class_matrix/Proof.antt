@@ -6,15 +6,6 @@ use Rattle.labelling.proofs.Noted.{marks-take}
 use Rattle.catalogue.proofs.matrices.class_matrix.Statement.{statement}
 use Rattle.catalogue.proofs.matrices.class_matrix.Tie as tie
 
-wide-labels-requires : tie.Need-wide-labels-requires
-wide-labels-requires c κs = search needs
-
-matrix-of-requires : tie.Need-matrix-of-requires
-matrix-of-requires c κs = search needs
-
-same-length : tie.Need-same-length
-same-length c = search needs
-
 returns : tie.Need-returns
 returns c =
     let a = c .before .before .before .before .before .before .args in
@@ -23,4 +14,4 @@ returns c =
 
 pub class-matrix-spec : {M : Type 1} → statement M
 class-matrix-spec =
-    tie.close (tie.spec wide-labels-requires matrix-of-requires same-length returns)
+    tie.close (tie.spec (λ c κs. search needs) (λ c κs. search needs) (λ c. search needs) returns)

@@ -29,24 +29,12 @@ compared c =
     (matrix-front (a .r) (a .c) (p .0) (a .matrix .now) (c .before .before .before .before .before .valuation-of .result) (c .before .before .before .before .before .valuation-of .ensures)
     (o .last .1 .1 .1 .1 .0) (replicate 25 0) (p .1) (p .2) (o .ensures))
 
-valuation-of-requires : tie.Need-valuation-of-requires
-valuation-of-requires c κs = search needs
-
-slice-aggregate-matrix-of : tie.Need-slice-aggregate-matrix-of
-slice-aggregate-matrix-of c = search needs
-
 matrix-of-requires : tie.Need-matrix-of-requires
 matrix-of-requires c κs = let f = square-fits (c .before .before .before .args .r) (omega arith) in search needs
-
-slice-aggregate-same-entries : tie.Need-slice-aggregate-same-entries
-slice-aggregate-same-entries c = search needs
 
 same-entries-requires : tie.Need-same-entries-requires
 same-entries-requires c κs =
     omega (arith, square-fits (c .before .before .before .before .before .before .args .r) (omega arith), c .before .before .matrix-of .kept .1 .1 .1 .1 .0)
-
-class-of-requires : tie.Need-class-of-requires
-class-of-requires c κs = search needs
 
 returns : tie.Need-returns
 returns c =
@@ -71,11 +59,11 @@ pub class-of-matrix-spec : {M : Type 1} → statement M
 class-of-matrix-spec =
     tie.close
     (tie.spec
-    valuation-of-requires
-    slice-aggregate-matrix-of
+    (λ c κs. search needs)
+    (λ c. search needs)
     matrix-of-requires
-    slice-aggregate-same-entries
+    (λ c. search needs)
     same-entries-requires
-    class-of-requires
+    (λ c κs. search needs)
     returns
     returns-2)

@@ -29,35 +29,17 @@ loop-holds c =
     let a = c .args in
     (length-take-le (a .n) (drop (a .at) (a .matrix .now)) (omega (arith, length-drop (a .at) (a .matrix .now))), omega arith, omega arith)
 
-add-if1 : tie.Need-add-if1 Inv-loop μ-loop
-add-if1 c = search needs
-
-shared-slice-read-if1 : tie.Need-shared-slice-read-if1 Inv-loop μ-loop
-shared-slice-read-if1 c = search needs
-
-cast-result : tie.Need-cast-result Inv-loop μ-loop
-cast-result c = search needs
-
 returns : tie.Need-returns Inv-loop μ-loop
 returns c =
     let a = c .before .before .before .before .args in
     let l = c .before .before .before .loop in
     (equal-found (take (a .n) (drop (a .at) (a .matrix .now))) (l .j) _ (l .inv .2) (omega arith) (entry (c .before .before)) (c .if1 .taken), omega arith)
 
-add-j : tie.Need-add-j Inv-loop μ-loop
-add-j c = search needs
-
-loop-less : tie.Need-loop-less Inv-loop μ-loop
-loop-less c = search needs
-
 loop-again : tie.Need-loop-again Inv-loop μ-loop
 loop-again c =
     let a = c .before .before .before .before .args in
     let l = c .before .before .before .loop in
     (l .inv .0, omega arith, equal-passed (take (a .n) (drop (a .at) (a .matrix .now))) (l .j) _ (l .inv .2) (omega arith) (entry (c .before .before)) (c .if1 .left))
-
-cast-result-2 : tie.Need-cast-result-2 Inv-loop μ-loop
-cast-result-2 c = search needs
 
 returns-2 : tie.Need-returns-2 Inv-loop μ-loop
 returns-2 c =
@@ -72,12 +54,12 @@ first-equal-spec =
     Inv-loop
     μ-loop
     loop-holds
-    add-if1
-    shared-slice-read-if1
-    cast-result
+    (λ c. search needs)
+    (λ c. search needs)
+    (λ c. search needs)
     returns
-    add-j
-    loop-less
+    (λ c. search needs)
+    (λ c. search needs)
     loop-again
-    cast-result-2
+    (λ c. search needs)
     returns-2)

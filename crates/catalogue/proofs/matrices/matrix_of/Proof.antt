@@ -25,15 +25,6 @@ loop-holds c =
     let e : 0 * a .r ≡ 0 = omega arith in
     (length-take-le (a .r) (a .t3) (omega arith), omega arith, refl, rw e)
 
-mul-x : tie.Need-mul-x Inv-loop μ-loop
-mul-x c = search needs
-
-array-read-x : tie.Need-array-read-x Inv-loop μ-loop
-array-read-x c = search needs
-
-own-entry-requires : tie.Need-own-entry-requires Inv-loop μ-loop
-own-entry-requires c κs = search needs
-
 mul-fill-row : tie.Need-mul-fill-row Inv-loop μ-loop
 mul-fill-row c =
     let f = row-fits (c .before .before .before .before .args .r) (c .before .before .loop .i) (omega arith) in
@@ -43,12 +34,6 @@ fill-row-requires : tie.Need-fill-row-requires Inv-loop μ-loop
 fill-row-requires c κs =
     let f = row-fits (c .before .before .before .before .before .args .r) (c .before .before .before .loop .i) (omega arith) in
     search needs
-
-add-i : tie.Need-add-i Inv-loop μ-loop
-add-i c = search needs
-
-loop-less : tie.Need-loop-less Inv-loop μ-loop
-loop-less c = search needs
 
 loop-again : tie.Need-loop-again Inv-loop μ-loop
 loop-again c =
@@ -64,9 +49,6 @@ loop-again c =
           ∙ rw (own .ensures, q .3, cells-own (take (a .c) (a .constants)) (getD (a .t3) (l .i) 0) (take (a .r) (a .t3)), ← getD-take (a .r) (a .t3) (l .i) 0 (omega arith))
           (matrix-more (take (a .c) (a .constants)) (take (a .r) (a .t3)) (a .r) (a .out .now) (l .i) (q .0) (omega arith) (omega arith)),
     )
-
-same-length : tie.Need-same-length Inv-loop μ-loop
-same-length c = search needs
 
 returns : tie.Need-returns Inv-loop μ-loop
 returns c =
@@ -84,13 +66,13 @@ matrix-of-spec =
     Inv-loop
     μ-loop
     loop-holds
-    mul-x
-    array-read-x
-    own-entry-requires
+    (λ c. search needs)
+    (λ c. search needs)
+    (λ c κs. search needs)
     mul-fill-row
     fill-row-requires
-    add-i
-    loop-less
+    (λ c. search needs)
+    (λ c. search needs)
     loop-again
-    same-length
+    (λ c. search needs)
     returns)

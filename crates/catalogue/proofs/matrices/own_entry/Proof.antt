@@ -8,18 +8,6 @@ use Rattle.catalogue.proofs.MatrixRows.{own-constant, own-other}
 use Rattle.catalogue.proofs.matrices.own_entry.Statement.{statement}
 use Rattle.catalogue.proofs.matrices.own_entry.Tie as tie
 
-slice-aggregate-position-of : tie.Need-slice-aggregate-position-of
-slice-aggregate-position-of c = search needs
-
-position-of-requires : tie.Need-position-of-requires
-position-of-requires c κs = search needs
-
-add-result : tie.Need-add-result
-add-result c = search needs
-
-cast-result : tie.Need-cast-result
-cast-result c = search needs
-
 returns : tie.Need-returns
 returns c =
     let a = c .before .before .before .args in
@@ -40,9 +28,9 @@ pub own-entry-spec : {M : Type 1} → statement M
 own-entry-spec =
     tie.close
     (tie.spec
-    slice-aggregate-position-of
-    position-of-requires
-    add-result
-    cast-result
+    (λ c. search needs)
+    (λ c κs. search needs)
+    (λ c. search needs)
+    (λ c. search needs)
     returns
     returns-2)

@@ -42,21 +42,6 @@ first-equal-requires c κs =
     let f = row-fits (c .before .before .before .before .args .r) (c .before .before .loop .i) (omega arith) in
     search needs
 
-register-of-requires : tie.Need-register-of-requires Inv-loop μ-loop
-register-of-requires c κs = search needs
-
-mul-list : tie.Need-mul-list Inv-loop μ-loop
-mul-list c = search needs
-
-array-write-list : tie.Need-array-write-list Inv-loop μ-loop
-array-write-list c = search needs
-
-add-i : tie.Need-add-i Inv-loop μ-loop
-add-i c = search needs
-
-loop-less : tie.Need-loop-less Inv-loop μ-loop
-loop-less c = search needs
-
 loop-again : tie.Need-loop-again Inv-loop μ-loop
 loop-again c =
     let a = c .before .before .before .before .before .before .args in
@@ -84,10 +69,10 @@ valuation-of-spec =
     add-register-of
     shared-slice-read-register-of
     first-equal-requires
-    register-of-requires
-    mul-list
-    array-write-list
-    add-i
-    loop-less
+    (λ c κs. search needs)
+    (λ c. search needs)
+    (λ c. search needs)
+    (λ c. search needs)
+    (λ c. search needs)
     loop-again
     returns)

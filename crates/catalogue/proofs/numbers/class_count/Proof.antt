@@ -5,14 +5,8 @@ use Rattle.catalogue.proofs.Ranked.{length-lists}
 use Rattle.catalogue.proofs.numbers.class_count.Statement.{statement}
 use Rattle.catalogue.proofs.numbers.class_count.Tie as tie
 
-count-of-requires : tie.Need-count-of-requires
-count-of-requires c κs = search needs
-
-cast-result : tie.Need-cast-result
-cast-result c = search needs
-
 returns : tie.Need-returns
 returns c = let a = c .before .args in c .count-of .ensures ∙ sym (length-lists (a .r) (a .c))
 
 pub class-count-spec : {M : Type 1} → statement M
-class-count-spec = tie.close (tie.spec count-of-requires cast-result returns)
+class-count-spec = tie.close (tie.spec (λ c κs. search needs) (λ c. search needs) returns)

@@ -36,24 +36,6 @@ loop-holds c =
     let five : length (a .t3) ≡ 5 = search needs in
     ranked-first (a .r) (a .c) (take (a .r) (a .t3)) (c .pre .0) (c .pre .1) (length-take-le (a .r) (a .t3) (omega arith)) (c .pre .2)
 
-array-read-wide8 : tie.Need-array-read-wide8 Inv-loop μ-loop
-array-read-wide8 c = search needs
-
-wide8-requires : tie.Need-wide8-requires Inv-loop μ-loop
-wide8-requires c κs = search needs
-
-add-count-of : tie.Need-add-count-of Inv-loop μ-loop
-add-count-of c = search needs
-
-sub-count-of : tie.Need-sub-count-of Inv-loop μ-loop
-sub-count-of c = search needs
-
-count-of-requires : tie.Need-count-of-requires Inv-loop μ-loop
-count-of-requires c κs = search needs
-
-wide16-requires : tie.Need-wide16-requires Inv-loop μ-loop
-wide16-requires c κs = search needs
-
 sub-sum : tie.Need-sub-sum Inv-loop μ-loop
 sub-sum c =
     let a = c .before .before .before .before .before .args in
@@ -73,15 +55,6 @@ add-sum c =
     let l = c .before .before .before .before .loop in
     let t = sum-small (a .r) (a .c) (take (a .r) (a .t3)) (l .b) (l .sum) (l .i) (l .inv) (omega arith) _ (label c) in
     rw (each c) (record { fits = omega arith })
-
-larger-requires : tie.Need-larger-requires Inv-loop μ-loop
-larger-requires c κs = search needs
-
-add-i : tie.Need-add-i Inv-loop μ-loop
-add-i c = search needs
-
-loop-less : tie.Need-loop-less Inv-loop μ-loop
-loop-less c = search needs
 
 loop-again : tie.Need-loop-again Inv-loop μ-loop
 loop-again c =
@@ -103,17 +76,17 @@ class-number-spec =
     Inv-loop
     μ-loop
     loop-holds
-    array-read-wide8
-    wide8-requires
-    add-count-of
-    sub-count-of
-    count-of-requires
-    wide16-requires
+    (λ c. search needs)
+    (λ c κs. search needs)
+    (λ c. search needs)
+    (λ c. search needs)
+    (λ c κs. search needs)
+    (λ c κs. search needs)
     sub-sum
     mul-sum
     add-sum
-    larger-requires
-    add-i
-    loop-less
+    (λ c κs. search needs)
+    (λ c. search needs)
+    (λ c. search needs)
     loop-again
     returns)

@@ -20,9 +20,6 @@ front c =
     ∙ padded-front (labels (take (a .c) (a .constants)) (take (a .r) (a .contents))) (a .r)
     (labels-length (take (a .c) (a .constants)) (take (a .r) (a .contents)) ∙ length-take-le (a .r) (a .contents) (omega arith)) (omega arith)
 
-labels-of-requires : tie.Need-labels-of-requires
-labels-of-requires c κs = search needs
-
 class-number-requires : tie.Need-class-number-requires
 class-number-requires c κs =
     let a = c .before .args in
@@ -40,4 +37,4 @@ returns c =
     c .class-number .ensures ∙ ap (index (lists (a .r) (a .c))) (front (c .before))
 
 pub class-of-spec : {M : Type 1} → statement M
-class-of-spec = tie.close (tie.spec labels-of-requires class-number-requires returns)
+class-of-spec = tie.close (tie.spec (λ c κs. search needs) class-number-requires returns)

@@ -12,9 +12,6 @@ use borrow.Author.Needs.{needs}
 use Rattle.catalogue.proofs.scan.contents_of.Statement.{statement}
 use Rattle.catalogue.proofs.scan.contents_of.Tie as tie
 
-constants-seen-requires : tie.Need-constants-seen-requires
-constants-seen-requires c κs = search needs
-
 identifiers-of-requires : tie.Need-identifiers-of-requires
 identifiers-of-requires c κs =
     let e = c .before in
@@ -32,4 +29,4 @@ returns c =
     c .identifiers-of .ensures ∙ ap (λ z. padded 5 (identifiers z (take (a .r) (a .labels)))) (constants-known (a .c) (a .constants) (e .pre .0) (c .before .constants-seen .ensures))
 
 pub contents-of-spec : {M : Type 1} → statement M
-contents-of-spec = tie.close (tie.spec constants-seen-requires identifiers-of-requires returns)
+contents-of-spec = tie.close (tie.spec (λ c κs. search needs) identifiers-of-requires returns)

@@ -10,9 +10,6 @@ use borrow.Author.Needs.{needs}
 use Rattle.catalogue.proofs.scan.labels_of.Statement.{statement}
 use Rattle.catalogue.proofs.scan.labels_of.Tie as tie
 
-constants-seen-requires : tie.Need-constants-seen-requires
-constants-seen-requires c κs = search needs
-
 labels-of-requires : tie.Need-labels-of-requires
 labels-of-requires c κs = let e = c .before in (constants-tidy (e .args .c) (e .args .constants) (e .pre .0) (c .constants-seen .ensures) 12 (omega arith), e .pre .1)
 
@@ -25,4 +22,4 @@ returns c =
     ∙ ap (λ z. padded 5 (labels z (take (a .r) (a .contents)))) (constants-known (a .c) (a .constants) (e .pre .0) (s .ensures))
 
 pub labels-of-spec : {M : Type 1} → statement M
-labels-of-spec = tie.close (tie.spec constants-seen-requires labels-of-requires returns)
+labels-of-spec = tie.close (tie.spec (λ c κs. search needs) labels-of-requires returns)

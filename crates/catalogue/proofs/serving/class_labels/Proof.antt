@@ -43,9 +43,6 @@ shared-slice-read-wide16 c =
     let p = c .before .before .before .pre in
     omega (arith, begins-length (servingRows (a .r) (a .c)) (a .rows .now) (p .3), serving-length (a .r) (a .c) (p .1) (p .2))
 
-wide16-requires : tie.Need-wide16-requires Inv-loop μ-loop
-wide16-requires c κs = search needs
-
 loop-holds : tie.Need-loop-holds Inv-loop μ-loop
 loop-holds c =
     let a = c .before .before .before .before .args in
@@ -56,30 +53,6 @@ loop-holds c =
       len,
       copied-first (getD (lists (a .r) (a .c)) (a .number) []) (omega arith),
     )
-
-cast-narrowed : tie.Need-cast-narrowed Inv-loop μ-loop
-cast-narrowed c = search needs
-
-mul-narrowed : tie.Need-mul-narrowed Inv-loop μ-loop
-mul-narrowed c = search needs
-
-add-narrowed : tie.Need-add-narrowed Inv-loop μ-loop
-add-narrowed c = search needs
-
-shared-slice-read-narrowed : tie.Need-shared-slice-read-narrowed Inv-loop μ-loop
-shared-slice-read-narrowed c = search needs
-
-narrowed-requires : tie.Need-narrowed-requires Inv-loop μ-loop
-narrowed-requires c κs = search needs
-
-array-write-labels : tie.Need-array-write-labels Inv-loop μ-loop
-array-write-labels c = search needs
-
-add-i : tie.Need-add-i Inv-loop μ-loop
-add-i c = search needs
-
-loop-less : tie.Need-loop-less Inv-loop μ-loop
-loop-less c = search needs
 
 loop-again : tie.Need-loop-again Inv-loop μ-loop
 loop-again c =
@@ -109,15 +82,15 @@ class-labels-spec =
     μ-loop
     mul-wide16
     shared-slice-read-wide16
-    wide16-requires
+    (λ c κs. search needs)
     loop-holds
-    cast-narrowed
-    mul-narrowed
-    add-narrowed
-    shared-slice-read-narrowed
-    narrowed-requires
-    array-write-labels
-    add-i
-    loop-less
+    (λ c. search needs)
+    (λ c. search needs)
+    (λ c. search needs)
+    (λ c. search needs)
+    (λ c κs. search needs)
+    (λ c. search needs)
+    (λ c. search needs)
+    (λ c. search needs)
     loop-again
     returns)

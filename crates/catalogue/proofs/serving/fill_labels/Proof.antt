@@ -17,26 +17,8 @@ Inv-loop table rows r c flat₀ count k₀ flat k = (k ≤ length (lists r c)) �
 abbrev μ-loop : tie.MeasureT-loop
 μ-loop table rows r c flat₀ count k₀ flat k = count - k
 
-class-count-requires : tie.Need-class-count-requires Inv-loop μ-loop
-class-count-requires c κs = search needs
-
 loop-holds : tie.Need-loop-holds Inv-loop μ-loop
 loop-holds c = (omega arith, refl, refl)
-
-class-labels-requires : tie.Need-class-labels-requires Inv-loop μ-loop
-class-labels-requires c κs = search needs
-
-mul-store : tie.Need-mul-store Inv-loop μ-loop
-mul-store c = search needs
-
-store-requires : tie.Need-store-requires Inv-loop μ-loop
-store-requires c κs = search needs
-
-add-k : tie.Need-add-k Inv-loop μ-loop
-add-k c = search needs
-
-loop-less : tie.Need-loop-less Inv-loop μ-loop
-loop-less c = search needs
 
 loop-again : tie.Need-loop-again Inv-loop μ-loop
 loop-again c =
@@ -50,9 +32,6 @@ loop-again c =
           (label-rows-more (a .r) (a .c) (omega arith) (a .flat .now) (l .k) (omega arith) (omega arith)),
     )
 
-same-length : tie.Need-same-length Inv-loop μ-loop
-same-length c = search needs
-
 returns : tie.Need-returns Inv-loop μ-loop
 returns c =
     let a = c .before .before .before .before .before .before .args in
@@ -65,13 +44,13 @@ fill-labels-spec =
     (tie.spec
     Inv-loop
     μ-loop
-    class-count-requires
+    (λ c κs. search needs)
     loop-holds
-    class-labels-requires
-    mul-store
-    store-requires
-    add-k
-    loop-less
+    (λ c κs. search needs)
+    (λ c. search needs)
+    (λ c κs. search needs)
+    (λ c. search needs)
+    (λ c. search needs)
     loop-again
-    same-length
+    (λ c. search needs)
     returns)

@@ -52,15 +52,6 @@ loop-holds c =
       filling-first (λ m. serves (a .r) (a .c) (row catalogue m)) 674 (servingRows (a .r) (a .c)) (a .rows .now) (serving-rows (a .r) (a .c)),
     )
 
-cast-row-serves : tie.Need-cast-row-serves Inv-loop μ-loop
-cast-row-serves c = search needs
-
-row-serves-requires : tie.Need-row-serves-requires Inv-loop μ-loop
-row-serves-requires c κs = search needs
-
-cast-rows : tie.Need-cast-rows Inv-loop μ-loop
-cast-rows c = search needs
-
 mul-rows : tie.Need-mul-rows Inv-loop μ-loop
 mul-rows c = let h = room c in search needs
 
@@ -69,12 +60,6 @@ slice-write-rows c = room c
 
 add-count : tie.Need-add-count Inv-loop μ-loop
 add-count c = let h = room c in search needs
-
-add-n : tie.Need-add-n Inv-loop μ-loop
-add-n c = search needs
-
-loop-less : tie.Need-loop-less Inv-loop μ-loop
-loop-less c = search needs
 
 loop-again : tie.Need-loop-again Inv-loop μ-loop
 loop-again c =
@@ -98,9 +83,6 @@ loop-again c =
     ))
     (c .if1 .came)
 
-same-length : tie.Need-same-length Inv-loop μ-loop
-same-length c = search needs
-
 returns : tie.Need-returns Inv-loop μ-loop
 returns c =
     let a = c .before .before .before .before .args in
@@ -114,14 +96,14 @@ fill-rows-spec =
     Inv-loop
     μ-loop
     loop-holds
-    cast-row-serves
-    row-serves-requires
-    cast-rows
+    (λ c. search needs)
+    (λ c κs. search needs)
+    (λ c. search needs)
     mul-rows
     slice-write-rows
     add-count
-    add-n
-    loop-less
+    (λ c. search needs)
+    (λ c. search needs)
     loop-again
-    same-length
+    (λ c. search needs)
     returns)

@@ -10,19 +10,13 @@ returns : tie.Need-returns
 unfolding narrow
 returns c = rw (le-leb _ _ (c .if1 .taken))
 
-sub-less : tie.Need-sub-less
-sub-less c = search needs
-
 returns-2 : tie.Need-returns-2
 unfolding narrow
 returns-2 c = rw (lt-leb _ _ (c .before .if1 .left)) (omega arith)
-
-sub-result : tie.Need-sub-result
-sub-result c = search needs
 
 returns-3 : tie.Need-returns-3
 unfolding narrow
 returns-3 c = rw (lt-leb _ _ (c .before .if1 .left))
 
 pub narrowed-spec : {M : Type 1} → statement M
-narrowed-spec = tie.close (tie.spec returns sub-less returns-2 sub-result returns-3)
+narrowed-spec = tie.close (tie.spec returns (λ c. search needs) returns-2 (λ c. search needs) returns-3)

@@ -32,33 +32,12 @@ loop-holds c =
     let a = c .before .args in
     (omega arith, length-take-le 5 (drop (a .n * 5) (a .table .now)) (omega (arith, length-drop (a .n * 5) (a .table .now))), refl)
 
-mul-label-serves : tie.Need-mul-label-serves Inv-loop μ-loop
-mul-label-serves c = search needs
-
-add-label-serves : tie.Need-add-label-serves Inv-loop μ-loop
-add-label-serves c = search needs
-
-shared-slice-read-label-serves : tie.Need-shared-slice-read-label-serves Inv-loop μ-loop
-shared-slice-read-label-serves c = search needs
-
-label-serves-requires : tie.Need-label-serves-requires Inv-loop μ-loop
-label-serves-requires c κs = search needs
-
 returns : tie.Need-returns Inv-loop μ-loop
 returns c =
     let a = c .before .before .before .before .before .before .args in
     let l = c .before .before .before .before .loop in
     sym (serves-failed (a .r) (a .c) (row (a .table .now) (a .n)) (l .i) (l .left) (l .inv .2) (omega arith)
     (sym (tested (c .before)) ∙ not-true (c .before .label-serves .result) (c .if1 .taken)))
-
-less-one-requires : tie.Need-less-one-requires Inv-loop μ-loop
-less-one-requires c κs = search needs
-
-add-i : tie.Need-add-i Inv-loop μ-loop
-add-i c = search needs
-
-loop-less : tie.Need-loop-less Inv-loop μ-loop
-loop-less c = search needs
 
 loop-again : tie.Need-loop-again Inv-loop μ-loop
 loop-again c =
@@ -84,13 +63,13 @@ row-serves-spec =
     Inv-loop
     μ-loop
     loop-holds
-    mul-label-serves
-    add-label-serves
-    shared-slice-read-label-serves
-    label-serves-requires
+    (λ c. search needs)
+    (λ c. search needs)
+    (λ c. search needs)
+    (λ c κs. search needs)
     returns
-    less-one-requires
-    add-i
-    loop-less
+    (λ c κs. search needs)
+    (λ c. search needs)
+    (λ c. search needs)
     loop-again
     returns-2)

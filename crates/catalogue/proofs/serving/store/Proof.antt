@@ -18,21 +18,6 @@ abbrev μ-loop : tie.MeasureT-loop
 loop-holds : tie.Need-loop-holds Inv-loop μ-loop
 loop-holds c = let a = c .args in (omega arith, refl, paste-zero (a .flat .now) (a .at) (a .t3))
 
-array-read-flat : tie.Need-array-read-flat Inv-loop μ-loop
-array-read-flat c = search needs
-
-add-flat : tie.Need-add-flat Inv-loop μ-loop
-add-flat c = search needs
-
-slice-write-flat : tie.Need-slice-write-flat Inv-loop μ-loop
-slice-write-flat c = search needs
-
-add-j : tie.Need-add-j Inv-loop μ-loop
-add-j c = search needs
-
-loop-less : tie.Need-loop-less Inv-loop μ-loop
-loop-less c = search needs
-
 loop-again : tie.Need-loop-again Inv-loop μ-loop
 loop-again c =
     let a = c .before .before .args in
@@ -42,9 +27,6 @@ loop-again c =
       simp length-set (l .inv .1),
       rw (l .inv .2) (paste-next (a .flat .now) (a .at) (a .t3) (l .j) _ (omega arith) (omega arith) refl),
     )
-
-same-length : tie.Need-same-length Inv-loop μ-loop
-same-length c = search needs
 
 returns : tie.Need-returns Inv-loop μ-loop
 returns c =
@@ -59,11 +41,11 @@ store-spec =
     Inv-loop
     μ-loop
     loop-holds
-    array-read-flat
-    add-flat
-    slice-write-flat
-    add-j
-    loop-less
+    (λ c. search needs)
+    (λ c. search needs)
+    (λ c. search needs)
+    (λ c. search needs)
+    (λ c. search needs)
     loop-again
-    same-length
+    (λ c. search needs)
     returns)

@@ -7,18 +7,9 @@ use borrow.Author.Needs.{needs}
 use Rattle.checker.proofs.given.classes_in.Statement.{statement}
 use Rattle.checker.proofs.given.classes_in.Tie as tie
 
-registers-requires : tie.Need-registers-requires
-registers-requires c κs = search needs
-
-constants-requires : tie.Need-constants-requires
-constants-requires c κs = search needs
-
-class-count-requires : tie.Need-class-count-requires
-class-count-requires c κs = search needs
-
 returns : tie.Need-returns
 returns c = c .class-count .ensures ∙ ap₂ (λ q k. length (lists q k)) (c .before .before .registers .ensures .0) (c .before .constants .ensures .0)
 
 pub classes-in-spec : {M : Type 1} → statement M
 classes-in-spec =
-    tie.close (tie.spec registers-requires constants-requires class-count-requires returns)
+    tie.close (tie.spec (λ c κs. search needs) (λ c κs. search needs) (λ c κs. search needs) returns)

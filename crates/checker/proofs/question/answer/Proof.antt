@@ -6,9 +6,6 @@ use lib.ListN.{length-replicate}
 use borrow.Author.Needs.{needs}
 use Rattle.checker.proofs.question.answer.Statement.{statement}
 use Rattle.checker.proofs.question.answer.Tie as tie
-use Rattle.checker.proofs.question.answer.Reads as reads
-use Rattle.checker.proofs.question.answer.Lts as lts
-use Rattle.checker.proofs.question.answer_over.Reads as answer-over-reads
 
 slice-aggregate-answer-over : tie.Need-slice-aggregate-answer-over
 slice-aggregate-answer-over c = sym (length-replicate {0} {A = ℕ} 992128 0)
@@ -21,9 +18,6 @@ answer-over-requires c κs =
 same-length : tie.Need-same-length
 same-length c = c .before .before .before .answer-over .kept .1 .1 .1 .1 .1 .0
 
-returns : tie.Need-returns
-returns c = search needs
-
 pub answer-spec : {M : Type 1} → statement M
 answer-spec =
-    tie.close (tie.spec slice-aggregate-answer-over answer-over-requires same-length returns)
+    tie.close (tie.spec slice-aggregate-answer-over answer-over-requires same-length (λ c. search needs))

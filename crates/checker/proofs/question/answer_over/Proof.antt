@@ -8,9 +8,6 @@ use borrow.Author.Needs.{needs}
 use Rattle.checker.proofs.question.answer_over.Statement.{statement}
 use Rattle.checker.proofs.question.answer_over.Tie as tie
 
-classes-in-requires : tie.Need-classes-in-requires
-classes-in-requires c κs = search needs
-
 fill-requires : tie.Need-fill-requires
 fill-requires c κs = (lent-as _ _ _ (c .before .classes-in .ensures) (c .before .before .before .before .before .before .before .pre .1), c .before .before .before .before .before .before .before .pre .0)
 
@@ -19,12 +16,6 @@ ask-requires c κs =
     let e = c .before .before .before .before .before .before .before .before .before .before .before .before .pre in
     let l = lent-as _ _ _ (c .before .before .before .before .before .before .classes-in .ensures) (e .1) in
     (ready _ _ _ l _ (c .before .before .before .before .fill .ensures .1), class-labels _ _ _ l, (e .2, e .3), e .4, e .5)
-
-enum-told : tie.Need-enum-told
-enum-told c = search needs
-
-enum-known-answer : tie.Need-enum-known-answer
-enum-known-answer c = search needs
 
 class-contents-requires : tie.Need-class-contents-requires
 class-contents-requires c κs =
@@ -35,12 +26,6 @@ class-contents-requires c κs =
 registers-requires : tie.Need-registers-requires
 registers-requires c κs = c .before .before .before .before .before .before .before .before .before .before .before .before .before .before .before .before .before .before .before .pre .1 .readable
 
-same-length : tie.Need-same-length
-same-length c = search needs
-
-same-length-2 : tie.Need-same-length-2
-same-length-2 c = search needs
-
 returns : tie.Need-returns
 returns c =
     let e = c .before .before .before .before .before .before .before .before .before .before .before .before .before .before .before .before .before .args in
@@ -48,12 +33,6 @@ returns c =
     let f = question (rowsOf (e .question .now) (e .count)) in
     let q = c .before .before .before .before .ask .ensures in
     (yes-reply a f _ (q .0) (c .enum-told .given .1), q .1, yes-contents a f _ (q .0) (c .enum-told .given .1) (e .contents .now))
-
-same-length-3 : tie.Need-same-length-3
-same-length-3 c = search needs
-
-same-length-4 : tie.Need-same-length-4
-same-length-4 c = search needs
 
 returns-2 : tie.Need-returns-2
 returns-2 c =
@@ -68,16 +47,16 @@ pub answer-over-spec : {M : Type 1} → statement M
 answer-over-spec =
     tie.close
     (tie.spec
-    classes-in-requires
+    (λ c κs. search needs)
     fill-requires
     ask-requires
-    enum-told
-    enum-known-answer
+    (λ c. search needs)
+    (λ c. search needs)
     class-contents-requires
     registers-requires
-    same-length
-    same-length-2
+    (λ c. search needs)
+    (λ c. search needs)
     returns
-    same-length-3
-    same-length-4
+    (λ c. search needs)
+    (λ c. search needs)
     returns-2)

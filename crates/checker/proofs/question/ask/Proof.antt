@@ -24,26 +24,11 @@ returns c =
     let x = ask-refused _ _ (ask-cramped (length (e .rows .now)) (e .table .now) (e .question .now) (c .if1 .taken)) (e .rows .now) (e .contents .now) in
     (x .0, x .1, x .2, ask-means (e .table .now) (e .question .now) _ (e .rows .now) _ _ _ (x .0) (x .1) (x .2))
 
-open-table-requires : tie.Need-open-table-requires
-open-table-requires c κs = search needs
-
-enum-known-opened : tie.Need-enum-known-opened
-enum-known-opened c = search needs
-
-enum-told : tie.Need-enum-told
-enum-told c = search needs
-
 slice-aggregate-read-rows : tie.Need-slice-aggregate-read-rows
 slice-aggregate-read-rows c = sym (opened (c .before) .readable .long)
 
 read-rows-requires : tie.Need-read-rows-requires
 read-rows-requires c κs = opened (c .before .before) .readable
-
-enum-known-reply : tie.Need-enum-known-reply
-enum-known-reply c = search needs
-
-enum-known-reply-2 : tie.Need-enum-known-reply-2
-enum-known-reply-2 c = search needs
 
 slice-aggregate-answer : tie.Need-slice-aggregate-answer
 slice-aggregate-answer c = sym (opened (c .before .before .before .before .before .before .before) .readable .long)
@@ -73,9 +58,6 @@ returns-3 c =
     let x = ask-refused _ _ (ask-roomy (length (e .rows .now)) (e .table .now) (e .question .now) (c .before .before .before .before .before .before .before .before .before .before .before .if1 .left) ∙ told-question-refused (e .table .now) (e .question .now) _ (opened (c .before .before .before .before .before .before) .outcome) _ _ (q .0) (c .before .reply .given .1)) (e .rows .now) (e .contents .now) in
     (x .0, x .1, x .2, ask-means (e .table .now) (e .question .now) _ (e .rows .now) _ _ _ (x .0) (x .1) (x .2))
 
-same-length : tie.Need-same-length
-same-length c = search needs
-
 returns-4 : tie.Need-returns-4
 returns-4 c =
     let e = c .before .before .before .before .before .before .before .before .before .before .before .before .before .before .before .before .before .before .before .before .before .before .before .args in
@@ -88,18 +70,18 @@ ask-spec =
     tie.close
     (tie.spec
     returns
-    open-table-requires
-    enum-known-opened
-    enum-told
+    (λ c κs. search needs)
+    (λ c. search needs)
+    (λ c. search needs)
     slice-aggregate-read-rows
     read-rows-requires
-    enum-known-reply
-    enum-known-reply-2
+    (λ c. search needs)
+    (λ c. search needs)
     slice-aggregate-answer
     slice-aggregate-answer-2
     slice-aggregate-answer-3
     answer-requires
     returns-2
     returns-3
-    same-length
+    (λ c. search needs)
     returns-4)

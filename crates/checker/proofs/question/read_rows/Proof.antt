@@ -7,27 +7,6 @@ use borrow.Author.Needs.{needs}
 use Rattle.checker.proofs.question.read_rows.Statement.{statement}
 use Rattle.checker.proofs.question.read_rows.Tie as tie
 
-registers-requires : tie.Need-registers-requires
-registers-requires c κs = search needs
-
-cast-registers : tie.Need-cast-registers
-cast-registers c = search needs
-
-constants-requires : tie.Need-constants-requires
-constants-requires c κs = search needs
-
-cast-constants : tie.Need-cast-constants
-cast-constants c = search needs
-
-locations-requires : tie.Need-locations-requires
-locations-requires c κs = search needs
-
-cast-locations : tie.Need-cast-locations
-cast-locations c = search needs
-
-read-question-requires : tie.Need-read-question-requires
-read-question-requires c κs = search needs
-
 returns : tie.Need-returns
 returns c =
     let a = c .before .before .before .before .before .before .before .args in
@@ -41,11 +20,11 @@ pub read-rows-spec : {M : Type 1} → statement M
 read-rows-spec =
     tie.close
     (tie.spec
-    registers-requires
-    cast-registers
-    constants-requires
-    cast-constants
-    locations-requires
-    cast-locations
-    read-question-requires
+    (λ c κs. search needs)
+    (λ c. search needs)
+    (λ c κs. search needs)
+    (λ c. search needs)
+    (λ c κs. search needs)
+    (λ c. search needs)
+    (λ c κs. search needs)
     returns)

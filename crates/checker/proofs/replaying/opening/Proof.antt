@@ -11,15 +11,6 @@ use borrow.Author.Needs.{needs}
 use Rattle.checker.proofs.replaying.opening.Statement.{statement}
 use Rattle.checker.proofs.replaying.opening.Tie as tie
 
-open-table-requires : tie.Need-open-table-requires
-open-table-requires c κs = search needs
-
-enum-told : tie.Need-enum-told
-enum-told c = search needs
-
-enum-known-reply : tie.Need-enum-known-reply
-enum-known-reply c = search needs
-
 returns : tie.Need-returns
 returns c =
     let q = c .before .before .open-table .ensures in
@@ -33,4 +24,4 @@ returns-2 c =
 
 pub opening-spec : {M : Type 1} → statement M
 opening-spec =
-    tie.close (tie.spec open-table-requires enum-told enum-known-reply returns returns-2)
+    tie.close (tie.spec (λ c κs. search needs) (λ c. search needs) (λ c. search needs) returns returns-2)

@@ -13,29 +13,14 @@ use Rattle.checker.proofs.replaying.replay.Tie as tie
 opened : (c : tie.After-enum-told) → Opened (c .before .before .before .before .before .before .before .before .before .args .table .now) (c .before .before .open-table .last .1 .0) (c .before .before .open-table .last .1 .1 .0)
 opened c = let q = c .before .before .open-table .ensures in told-opened _ _ _ _ _ _ (q .0) (q .1) (q .2) (c .enum-told .given .1)
 
-whole-requires : tie.Need-whole-requires
-whole-requires c κs = search needs
-
 returns : tie.Need-returns
 returns c = let a = c .before .before .before .before .args in short-refused (a .table .now) (a .run .now) (sym (c .before .whole .ensures) ∙ not-true _ (c .if1 .taken))
-
-open-table-requires : tie.Need-open-table-requires
-open-table-requires c κs = search needs
-
-enum-told : tie.Need-enum-told
-enum-told c = search needs
 
 slice-aggregate-replay : tie.Need-slice-aggregate-replay
 slice-aggregate-replay c = sym (opened (c .before) .readable .long)
 
 replay-requires : tie.Need-replay-requires
 replay-requires c κs = (opened (c .before) .readable, whole-is (c .before .before .before .before .before .before .before .before .before .before .args .run .now) (sym (c .before .before .before .before .before .before .before .whole .ensures) ∙ not-false _ (c .before .before .before .before .before .before .if1 .left)))
-
-reply-of-requires : tie.Need-reply-of-requires
-reply-of-requires c κs = search needs
-
-enum-known-reply : tie.Need-enum-known-reply
-enum-known-reply c = search needs
 
 returns-2 : tie.Need-returns-2
 returns-2 c =
@@ -51,13 +36,13 @@ pub replay-spec : {M : Type 1} → statement M
 replay-spec =
     tie.close
     (tie.spec
-    whole-requires
+    (λ c κs. search needs)
     returns
-    open-table-requires
-    enum-told
+    (λ c κs. search needs)
+    (λ c. search needs)
     slice-aggregate-replay
     replay-requires
-    reply-of-requires
-    enum-known-reply
+    (λ c κs. search needs)
+    (λ c. search needs)
     returns-2
     returns-3)

@@ -6,17 +6,8 @@ use mathlib.Core.Path.{sym, ap}
 use Rattle.checker.proofs.replaying.reply_of.Statement.{statement}
 use Rattle.checker.proofs.replaying.reply_of.Tie as tie
 
-enum-told : tie.Need-enum-told
-enum-told c = search needs
-
-enum-known-verdict : tie.Need-enum-known-verdict
-enum-known-verdict c = search needs
-
-returns : tie.Need-returns
-returns c = search needs
-
 returns-2 : tie.Need-returns-2
 returns-2 c = sym (ap replied (c .before .verdict .given .1))
 
 pub reply-of-spec : {M : Type 1} → statement M
-reply-of-spec = tie.close (tie.spec enum-told enum-known-verdict returns returns-2)
+reply-of-spec = tie.close (tie.spec (λ c. search needs) (λ c. search needs) (λ c. search needs) returns-2)

@@ -5,18 +5,6 @@ use borrow.Author.Needs.{needs}
 use Rattle.concretization.proofs.along.class_contents.Statement.{statement}
 use Rattle.concretization.proofs.along.class_contents.Tie as tie
 
-class-row-requires : tie.Need-class-row-requires
-class-row-requires c κs = search needs
-
-constant-values-requires : tie.Need-constant-values-requires
-constant-values-requires c κs = search needs
-
-constants-requires : tie.Need-constants-requires
-constants-requires c κs = search needs
-
-registers-requires : tie.Need-registers-requires
-registers-requires c κs = search needs
-
 contents-of-requires : tie.Need-contents-of-requires
 contents-of-requires c κs =
     let e = c .before .before .before .before .before .before in
@@ -36,9 +24,9 @@ pub class-contents-spec : {M : Type 1} → statement M
 class-contents-spec =
     tie.close
     (tie.spec
-    class-row-requires
-    constant-values-requires
-    constants-requires
-    registers-requires
+    (λ c κs. search needs)
+    (λ c κs. search needs)
+    (λ c κs. search needs)
+    (λ c κs. search needs)
     contents-of-requires
     returns)

@@ -15,20 +15,11 @@ stands : (c : tie.After-start) → (let e = c .before .before .before .before .b
     record { place = c .start .result; contents = c .before .before .before .before .before .before .contents-at .result } ≡ standOf (initial (automatonOf (e .args .form .now)) (pathContents (automatonOf (e .args .form .now)) (e .args .path .now))))
 stands c = λ i. record { place = c .start .ensures .0 i; contents = c .before .before .before .before .before .before .contents-at .ensures i }
 
-shared-slice-read-contents-at : tie.Need-shared-slice-read-contents-at
-shared-slice-read-contents-at c = search needs
-
 cast-contents-at : tie.Need-cast-contents-at
 cast-contents-at c = omega (arith, c .shared-slice-known4 .given 0)
 
 contents-at-requires : tie.Need-contents-at-requires
 contents-at-requires c κs = let e = (c .before .before .before .before .before .before) in (e .pre .0, e .pre .1 .low 0 (omega arith))
-
-slice-aggregate-put : tie.Need-slice-aggregate-put
-slice-aggregate-put c = search needs
-
-put-requires : tie.Need-put-requires
-put-requires c κs = search needs
 
 start-requires : tie.Need-start-requires
 start-requires c κs = c .before .before .before .before .before .before .before .before .before .before .before .before .pre .0 .readable
@@ -42,12 +33,6 @@ registers-requires c κs = c .before .before .before .before .before .before .be
 line-requires : tie.Need-line-requires
 line-requires c κs = (c .registers .ensures .1, omega arith)
 
-slice-aggregate-put-2 : tie.Need-slice-aggregate-put-2
-slice-aggregate-put-2 c = search needs
-
-put-requires-2 : tie.Need-put-requires-2
-put-requires-2 c κs = search needs
-
 write-moves-requires : tie.Need-write-moves-requires
 write-moves-requires c κs =
     let e = c .before .before .before .before .before .before .before .before .before .before .before .before .before .before .before .before .before .before .before .before .before .before in (
@@ -57,12 +42,6 @@ write-moves-requires c κs =
       omega (arith, e .pre .3, c .before .before .before .before .before .before .before .before .before .before .before .before .put .kept),
       omega (arith, e .pre .4, c .before .before .before .before .put2 .kept),
     )
-
-same-length : tie.Need-same-length
-same-length c = search needs
-
-same-length-2 : tie.Need-same-length-2
-same-length-2 c = search needs
 
 returns : tie.Need-returns
 returns c =
@@ -79,18 +58,18 @@ pub write-run-spec : {M : Type 1} → statement M
 write-run-spec =
     tie.close
     (tie.spec
-    shared-slice-read-contents-at
+    (λ c. search needs)
     cast-contents-at
     contents-at-requires
-    slice-aggregate-put
-    put-requires
+    (λ c. search needs)
+    (λ c κs. search needs)
     start-requires
     cast-place
     registers-requires
     line-requires
-    slice-aggregate-put-2
-    put-requires-2
+    (λ c. search needs)
+    (λ c κs. search needs)
     write-moves-requires
-    same-length
-    same-length-2
+    (λ c. search needs)
+    (λ c. search needs)
     returns)

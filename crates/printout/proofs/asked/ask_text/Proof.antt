@@ -8,31 +8,11 @@ use Rattle.printout.proofs.Whole.{asked-whole}
 use borrow.Author.Needs.{needs}
 use Rattle.printout.proofs.asked.ask_text.Statement.{statement}
 use Rattle.printout.proofs.asked.ask_text.Tie as tie
-use Rattle.printout.proofs.asked.ask_text.Reads as reads
-use Rattle.printout.proofs.asked.ask_text.Lts as lts
-use Rattle.checker.proofs.ask.Reads as ask-reads
-use Rattle.printout.proofs.asked.first_line.Reads as first-line-reads
-use Rattle.printout.proofs.text.put_line.Reads as put-line-reads
-
-slice-aggregate-ask : tie.Need-slice-aggregate-ask
-slice-aggregate-ask c = search needs
-
-ask-requires : tie.Need-ask-requires
-ask-requires c κs = search needs
 
 first-line-requires : tie.Need-first-line-requires
 first-line-requires c κs =
     let a = c .before .before .before .before .before .before .args in
     subst (λ r. classOf r ≤ 673) (sym (c .before .ask .ensures .0)) (class-low _ (a .table .now) (a .question .now))
-
-array-share-prefix-values : tie.Need-array-share-prefix-values
-array-share-prefix-values c = search needs
-
-slice-aggregate-put-line : tie.Need-slice-aggregate-put-line
-slice-aggregate-put-line c = search needs
-
-put-line-requires : tie.Need-put-line-requires
-put-line-requires c κs = search needs
 
 returns : tie.Need-returns
 returns c =
@@ -45,10 +25,10 @@ pub ask-text-spec : {M : Type 1} → statement M
 ask-text-spec =
     tie.close
     (tie.spec
-    slice-aggregate-ask
-    ask-requires
+    (λ c. search needs)
+    (λ c κs. search needs)
     first-line-requires
-    array-share-prefix-values
-    slice-aggregate-put-line
-    put-line-requires
+    (λ c. search needs)
+    (λ c. search needs)
+    (λ c κs. search needs)
     returns)

@@ -11,42 +11,9 @@ use Rattle.printout.proofs.Bytes.{five-taken}
 use borrow.Author.Needs.{needs}
 use Rattle.printout.proofs.asked.first_line.Statement.{statement}
 use Rattle.printout.proofs.asked.first_line.Tie as tie
-use Rattle.printout.proofs.asked.first_line.Reads as reads
-use Rattle.printout.proofs.asked.first_line.Lts as lts
-use Rattle.printout.proofs.asked.at_most_five.Reads as at-most-five-reads
-
-enum-told : tie.Need-enum-told
-enum-told c = search needs
-
-enum-known-reply : tie.Need-enum-known-reply
-enum-known-reply c = search needs
-
-at-most-five-requires : tie.Need-at-most-five-requires
-at-most-five-requires c κs = search needs
-
-add-t10 : tie.Need-add-t10
-add-t10 c = search needs
 
 cast-t11 : tie.Need-cast-t11
 cast-t11 c = let h : c .before .before .reply .given .0 .0 ≤ 673 = subst (λ r. classOf r ≤ 673) (c .before .before .reply .given .1) (c .before .before .before .before .pre) in omega arith
-
-array-read-t14 : tie.Need-array-read-t14
-array-read-t14 c = search needs
-
-array-read-t17 : tie.Need-array-read-t17
-array-read-t17 c = search needs
-
-array-read-t20 : tie.Need-array-read-t20
-array-read-t20 c = search needs
-
-array-read-t23 : tie.Need-array-read-t23
-array-read-t23 c = search needs
-
-array-read-t26 : tie.Need-array-read-t26
-array-read-t26 c = search needs
-
-enum-known-reply-2 : tie.Need-enum-known-reply-2
-enum-known-reply-2 c = search needs
 
 returns : tie.Need-returns
 returns c = (omega arith, (omega arith, refl), sym (ap (λ r. askNumbers r (c .before .before .args .t2)) (c .enum-told .given .1)))
@@ -68,17 +35,17 @@ pub first-line-spec : {M : Type 1} → statement M
 first-line-spec =
     tie.close
     (tie.spec
-    enum-told
-    enum-known-reply
-    at-most-five-requires
-    add-t10
+    (λ c. search needs)
+    (λ c. search needs)
+    (λ c κs. search needs)
+    (λ c. search needs)
     cast-t11
-    array-read-t14
-    array-read-t17
-    array-read-t20
-    array-read-t23
-    array-read-t26
-    enum-known-reply-2
+    (λ c. search needs)
+    (λ c. search needs)
+    (λ c. search needs)
+    (λ c. search needs)
+    (λ c. search needs)
+    (λ c. search needs)
     returns
     returns-2
     returns-3)

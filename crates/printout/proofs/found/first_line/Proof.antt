@@ -6,20 +6,9 @@ use Rattle.printout.specs.AnswerNumbers.{reachNumbers, momentCount}
 use borrow.Author.Needs.{needs}
 use Rattle.printout.proofs.found.first_line.Statement.{statement}
 use Rattle.printout.proofs.found.first_line.Tie as tie
-use Rattle.printout.proofs.found.first_line.Reads as reads
-use Rattle.printout.proofs.found.first_line.Lts as lts
-
-enum-known-reply : tie.Need-enum-known-reply
-enum-known-reply c = search needs
-
-enum-known-reply-2 : tie.Need-enum-known-reply-2
-enum-known-reply-2 c = search needs
 
 cast-t8 : tie.Need-cast-t8
 cast-t8 c = let h : suc (c .before .reply2 .given .0 .0) ≤ 10785 = subst (λ r. momentCount r ≤ 10785) (c .before .reply2 .given .1) (c .before .before .before .pre) in omega arith
-
-enum-known-reply-3 : tie.Need-enum-known-reply-3
-enum-known-reply-3 c = search needs
 
 returns : tie.Need-returns
 returns c = (omega arith, (omega arith, refl), sym (ap reachNumbers (c .before .reply .given .1)))
@@ -34,10 +23,10 @@ pub first-line-spec : {M : Type 1} → statement M
 first-line-spec =
     tie.close
     (tie.spec
-    enum-known-reply
-    enum-known-reply-2
+    (λ c. search needs)
+    (λ c. search needs)
     cast-t8
-    enum-known-reply-3
+    (λ c. search needs)
     returns
     returns-2
     returns-3)

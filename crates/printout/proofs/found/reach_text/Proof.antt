@@ -8,34 +8,9 @@ use Rattle.printout.proofs.Whole.{found-whole}
 use borrow.Author.Needs.{needs}
 use Rattle.printout.proofs.found.reach_text.Statement.{statement}
 use Rattle.printout.proofs.found.reach_text.Tie as tie
-use Rattle.printout.proofs.found.reach_text.Reads as reads
-use Rattle.printout.proofs.found.reach_text.Lts as lts
-use Rattle.checker.proofs.reach.Reads as reach-reads
-use Rattle.printout.proofs.found.write.Reads as write-reads
 
 size : (n : ℕ) → length (replicate {A = ℕ} n 0) ≡ n
 size n = length-replicate {0} {A = ℕ} n 0
-
-slice-aggregate-reach : tie.Need-slice-aggregate-reach
-slice-aggregate-reach c = search needs
-
-slice-aggregate-reach-2 : tie.Need-slice-aggregate-reach-2
-slice-aggregate-reach-2 c = search needs
-
-slice-aggregate-reach-3 : tie.Need-slice-aggregate-reach-3
-slice-aggregate-reach-3 c = search needs
-
-slice-aggregate-reach-4 : tie.Need-slice-aggregate-reach-4
-slice-aggregate-reach-4 c = search needs
-
-slice-aggregate-reach-5 : tie.Need-slice-aggregate-reach-5
-slice-aggregate-reach-5 c = search needs
-
-reach-requires : tie.Need-reach-requires
-reach-requires c κs = search needs
-
-slice-aggregate-write : tie.Need-slice-aggregate-write
-slice-aggregate-write c = search needs
 
 write-requires : tie.Need-write-requires
 write-requires c κs =
@@ -56,12 +31,12 @@ pub reach-text-spec : {M : Type 1} → statement M
 reach-text-spec =
     tie.close
     (tie.spec
-    slice-aggregate-reach
-    slice-aggregate-reach-2
-    slice-aggregate-reach-3
-    slice-aggregate-reach-4
-    slice-aggregate-reach-5
-    reach-requires
-    slice-aggregate-write
+    (λ c. search needs)
+    (λ c. search needs)
+    (λ c. search needs)
+    (λ c. search needs)
+    (λ c. search needs)
+    (λ c κs. search needs)
+    (λ c. search needs)
     write-requires
     returns)

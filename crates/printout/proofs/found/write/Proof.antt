@@ -8,27 +8,6 @@ use Rattle.printout.proofs.Whole.{text-made}
 use borrow.Author.Needs.{needs}
 use Rattle.printout.proofs.found.write.Statement.{statement}
 use Rattle.printout.proofs.found.write.Tie as tie
-use Rattle.printout.proofs.found.write.Reads as reads
-use Rattle.printout.proofs.found.write.Lts as lts
-use Rattle.printout.proofs.found.first_line.Reads as first-line-reads
-use Rattle.printout.proofs.found.moments.Reads as moments-reads
-use Rattle.printout.proofs.text.put_line.Reads as put-line-reads
-use Rattle.printout.proofs.text.put_moments.Reads as put-moments-reads
-
-first-line-requires : tie.Need-first-line-requires
-first-line-requires c κs = search needs
-
-array-share-prefix-values : tie.Need-array-share-prefix-values
-array-share-prefix-values c = search needs
-
-slice-aggregate-put-line : tie.Need-slice-aggregate-put-line
-slice-aggregate-put-line c = search needs
-
-put-line-requires : tie.Need-put-line-requires
-put-line-requires c κs = search needs
-
-moments-requires : tie.Need-moments-requires
-moments-requires c κs = search needs
 
 put-moments-requires : tie.Need-put-moments-requires
 put-moments-requires c κs =
@@ -36,9 +15,6 @@ put-moments-requires c κs =
     let p = c .before .before .before .before .put-line .ensures in
     let f = c .before .before .before .before .before .before .before .before .first-line .ensures in
     (omega (arith, pre .0, pre .1, p .0, f .0, f .1 .1, c .moments .ensures, c .before .before .before .text .given), omega (arith, pre .0, pre .2, c .moments .ensures))
-
-same-length : tie.Need-same-length
-same-length c = search needs
 
 returns : tie.Need-returns
 returns c =
@@ -58,11 +34,11 @@ pub write-spec : {M : Type 1} → statement M
 write-spec =
     tie.close
     (tie.spec
-    first-line-requires
-    array-share-prefix-values
-    slice-aggregate-put-line
-    put-line-requires
-    moments-requires
+    (λ c κs. search needs)
+    (λ c. search needs)
+    (λ c. search needs)
+    (λ c κs. search needs)
+    (λ c κs. search needs)
     put-moments-requires
-    same-length
+    (λ c. search needs)
     returns)

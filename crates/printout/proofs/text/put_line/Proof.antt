@@ -8,27 +8,6 @@ use Rattle.printout.proofs.Bytes.{line-ends}
 use borrow.Author.Needs.{needs}
 use Rattle.printout.proofs.text.put_line.Statement.{statement}
 use Rattle.printout.proofs.text.put_line.Tie as tie
-use Rattle.printout.proofs.text.put_line.Reads as reads
-use Rattle.printout.proofs.text.put_line.Lts as lts
-use Rattle.printout.proofs.text.put_numbers.Reads as put-numbers-reads
-
-put-numbers-requires : tie.Need-put-numbers-requires
-put-numbers-requires c κs = search needs
-
-mul-end : tie.Need-mul-end
-mul-end c = search needs
-
-add-end : tie.Need-add-end
-add-end c = search needs
-
-slice-write-text : tie.Need-slice-write-text
-slice-write-text c = search needs
-
-add-result : tie.Need-add-result
-add-result c = search needs
-
-same-length : tie.Need-same-length
-same-length c = search needs
 
 returns : tie.Need-returns
 returns c =
@@ -41,4 +20,4 @@ returns c =
 pub put-line-spec : {M : Type 1} → statement M
 put-line-spec =
     tie.close
-    (tie.spec put-numbers-requires mul-end add-end slice-write-text add-result same-length returns)
+    (tie.spec (λ c κs. search needs) (λ c. search needs) (λ c. search needs) (λ c. search needs) (λ c. search needs) (λ c. search needs) returns)

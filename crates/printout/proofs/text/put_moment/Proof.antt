@@ -9,34 +9,6 @@ use Rattle.printout.specs.Text.{line, shown}
 use borrow.Author.Needs.{needs}
 use Rattle.printout.proofs.text.put_moment.Statement.{statement}
 use Rattle.printout.proofs.text.put_moment.Tie as tie
-use Rattle.printout.proofs.text.put_moment.Reads as reads
-use Rattle.printout.proofs.text.put_moment.Lts as lts
-use Rattle.printout.proofs.text.at_most_eleven.Reads as at-most-eleven-reads
-use Rattle.printout.proofs.text.put_line.Reads as put-line-reads
-
-shared-slice-read-at-most-eleven : tie.Need-shared-slice-read-at-most-eleven
-shared-slice-read-at-most-eleven c = search needs
-
-at-most-eleven-requires : tie.Need-at-most-eleven-requires
-at-most-eleven-requires c κs = search needs
-
-add-end : tie.Need-add-end
-add-end c = search needs
-
-sub-put-line : tie.Need-sub-put-line
-sub-put-line c = search needs
-
-part-put-line-start : tie.Need-part-put-line-start
-part-put-line-start c = search needs
-
-part-put-line-end : tie.Need-part-put-line-end
-part-put-line-end c = search needs
-
-put-line-requires : tie.Need-put-line-requires
-put-line-requires c κs = search needs
-
-same-length : tie.Need-same-length
-same-length c = search needs
 
 returns : tie.Need-returns
 returns c =
@@ -54,12 +26,12 @@ pub put-moment-spec : {M : Type 1} → statement M
 put-moment-spec =
     tie.close
     (tie.spec
-    shared-slice-read-at-most-eleven
-    at-most-eleven-requires
-    add-end
-    sub-put-line
-    part-put-line-start
-    part-put-line-end
-    put-line-requires
-    same-length
+    (λ c. search needs)
+    (λ c κs. search needs)
+    (λ c. search needs)
+    (λ c. search needs)
+    (λ c. search needs)
+    (λ c. search needs)
+    (λ c κs. search needs)
+    (λ c. search needs)
     returns)

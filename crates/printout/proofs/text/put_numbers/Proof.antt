@@ -9,9 +9,6 @@ use Rattle.printout.proofs.Bytes.{numbers-none, numbers-more, numbers-d
 use borrow.Author.Needs.{needs}
 use Rattle.printout.proofs.text.put_numbers.Statement.{statement}
 use Rattle.printout.proofs.text.put_numbers.Tie as tie
-use Rattle.printout.proofs.text.put_numbers.Reads as reads
-use Rattle.printout.proofs.text.put_numbers.Lts as lts
-use Rattle.columns.proofs.put.Reads as put-reads
 
 abbrev Inv-loop : tie.InvT-loop
 Inv-loop text₀ at numbers i₀ text i = (i ≤ length numbers) × (length text ≡ length text₀) × (take (at + 6 * i) text ≡ take at text₀ ++ fields (take i numbers))
@@ -24,27 +21,6 @@ loop-holds c =
     let a = c .before .before .args in
     (omega arith, refl, numbers-none (a .text .now) (a .numbers .now) (a .at) (a .at + 6 * 0) (omega arith))
 
-mul-put : tie.Need-mul-put Inv-loop μ-loop
-mul-put c = search needs
-
-add-put : tie.Need-add-put Inv-loop μ-loop
-add-put c = search needs
-
-mul-put-2 : tie.Need-mul-put-2 Inv-loop μ-loop
-mul-put-2 c = search needs
-
-shared-slice-read-put : tie.Need-shared-slice-read-put Inv-loop μ-loop
-shared-slice-read-put c = search needs
-
-put-requires : tie.Need-put-requires Inv-loop μ-loop
-put-requires c κs = search needs
-
-add-i : tie.Need-add-i Inv-loop μ-loop
-add-i c = search needs
-
-loop-less : tie.Need-loop-less Inv-loop μ-loop
-loop-less c = search needs
-
 loop-again : tie.Need-loop-again Inv-loop μ-loop
 loop-again c =
     let a = c .before .before .before .before .before .before .before .before .before .args in
@@ -54,9 +30,6 @@ loop-again c =
       ap length p ∙ (simp length-set (l .inv .1)),
       ap (take (a .at + 6 * (l .i + 1))) p ∙ numbers-more (l .text) (a .text .now) (a .numbers .now) (a .at) (l .i) (omega arith) (omega arith) (l .inv .2),
     )
-
-same-length : tie.Need-same-length Inv-loop μ-loop
-same-length c = search needs
 
 returns : tie.Need-returns Inv-loop μ-loop
 returns c =
@@ -71,13 +44,13 @@ put-numbers-spec =
     Inv-loop
     μ-loop
     loop-holds
-    mul-put
-    add-put
-    mul-put-2
-    shared-slice-read-put
-    put-requires
-    add-i
-    loop-less
+    (λ c. search needs)
+    (λ c. search needs)
+    (λ c. search needs)
+    (λ c. search needs)
+    (λ c κs. search needs)
+    (λ c. search needs)
+    (λ c. search needs)
     loop-again
-    same-length
+    (λ c. search needs)
     returns)
