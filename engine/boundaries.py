@@ -2,9 +2,12 @@
 """Writes the boundary cases of reading: for each refusal number of document 01 files at and just past its limit.
 
 boundaries.py DATA STDOUT writes the files NNN.table, NNN.target, NNN.question to the folder DATA, and to the file STDOUT
-what must be printed for them: case, refusal number, file, line, each in six columns (0 0 0 where all is read).
-The expected numbers are written by hand from document 01, beside each case."""
+what must be printed for them: case, refusal number, file, line (0 0 0 where all is read), and which files are there (0 none,
+1 the table, 3 the table and a target, 5 the table and a question), each in six columns.
+The expected numbers are written by hand from document 01, beside each case. The engine's tests (tests/stored.rs) compare
+them with the engine."""
 import os
+import shutil
 import sys
 
 
@@ -48,16 +51,19 @@ SAME = (1, 1, 1, 1, 1)  # register 1 = register 1
 cases = []
 
 
+FOLDER = object()  # in the place of a file's bytes
+
+
 def table(data, number=0, line=0, why=""):
-    cases.append((data, None, None, (number, 1 if number else 0, line), why))
+    cases.append((data, None, None, (number, 1 if number else 0, line, 1), why))
 
 
 def target(data, number=0, line=0, why="", table=SAMPLE_BYTES):
-    cases.append((table, data, None, (number, 2 if number else 0, line), why))
+    cases.append((table, data, None, (number, 2 if number else 0, line, 3), why))
 
 
 def question(data, number=0, line=0, why="", table=SAMPLE_BYTES):
-    cases.append((table, None, data, (number, 2 if number else 0, line), why))
+    cases.append((table, None, data, (number, 2 if number else 0, line, 5), why))
 
 
 # what is read
@@ -197,19 +203,30 @@ question(lines((1, 1, 0), (4, 1, 7)), 5, 2, "an unused field of a row that names
 question(lines((1, 1, 0), (5, 1, 2)), 8, 2, "the second row number is not earlier")
 question(lines((1, 1, 0), (5, 2, 999999)), 8, 2, "a row number however large is 8")
 question(lines((15, 9, 9)), 5, 1, "the kind comes first")
+# what cannot be read counts as empty; no file at all
+table(FOLDER, 2, 1, "a folder in the place of the table")
+target(FOLDER, 2, 1, "a folder in the place of the target")
+question(FOLDER, 2, 1, "a folder in the place of the question")
+cases.append((None, None, None, (0, 0, 0, 0), "no table"))
+
+
+def write(path, content):
+    if content is FOLDER:
+        os.mkdir(path)
+        path, content = os.path.join(path, "folder"), b"This folder stands in the place of a file.\n"
+    with open(path, "wb") as f:
+        f.write(content)
 
 
 def main():
     data, stdout = sys.argv[1:3]
-    os.makedirs(data, exist_ok=True)
-    for name in os.listdir(data):
-        os.remove(os.path.join(data, name))
+    shutil.rmtree(data, ignore_errors=True)
+    os.makedirs(data)
     with open(stdout, "w") as out:
         for i, (t, g, q, expected, why) in enumerate(cases, 1):
             for kind, content in (("table", t), ("target", g), ("question", q)):
                 if content is not None:
-                    with open(os.path.join(data, "%03d.%s" % (i, kind)), "wb") as f:
-                        f.write(content)
+                    write(os.path.join(data, "%03d.%s" % (i, kind)), content)
             out.write(fields(i, *expected) + "\n")
 
 

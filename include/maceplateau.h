@@ -30,9 +30,10 @@
 #include <stddef.h>
 #include <stdint.h>
 
-/* Bytes of stack that suffice for every call. Measured, tests/c/measure: reaching takes 0.28 MB, and from 800 steps on 0.23 MB and 64
- * bytes for each step of the run (0.66 MB at 6,672 steps, 0.93 MB at most); a question takes 4.2 MB, whatever the table. */
-#define MACEPLATEAU_REACH_STACK ((size_t)1 << 20)
+/* Bytes of stack that suffice for every call: what the source asks for. Reaching: 950,408 bytes for the buffers of a call, 92,206 for the forms, the queue
+ * and the path, and 64 for each of at most 10,784 calls of the walk over the links, 1.74 MB in all; the compiler drops what is not returned, and a call
+ * was seen to take 0.28 MB to 0.66 MB (tests/c/measure). A question: 4.2 MB, whatever the table. */
+#define MACEPLATEAU_REACH_STACK ((size_t)2 << 20)
 #define MACEPLATEAU_ASK_STACK ((size_t)5 << 20)
 
 #ifdef __cplusplus

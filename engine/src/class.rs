@@ -3,7 +3,9 @@
 
 use crate::meaning::{contents_pool, others, tuples, Contents};
 use crate::read::Refusal;
+use std::cell::RefCell;
 use std::collections::{BTreeMap, BTreeSet};
+use std::rc::Rc;
 
 /// The list of contents: the constant's number, or the number of constants plus the block's.
 pub fn list_of(constants: &[u32], contents: &[u32]) -> Vec<u32> {
@@ -45,6 +47,19 @@ impl Classes {
             lists,
             numbers,
         }
+    }
+
+    /// The same, made once for the same numbers.
+    fn of(registers: usize, constants: &[u32]) -> Rc<Self> {
+        thread_local! {
+            static MADE: RefCell<BTreeMap<(usize, Vec<u32>), Rc<Classes>>> = RefCell::default();
+        }
+        let key = (registers, constants.to_vec());
+        MADE.with_borrow_mut(|made| {
+            made.entry(key)
+                .or_insert_with(|| Rc::new(Classes::new(registers, constants)))
+                .clone()
+        })
     }
 
     pub fn count(&self) -> usize {
@@ -106,21 +121,43 @@ fn counts(registers: usize, constants: &[u32]) -> Result<(), Refusal> {
 }
 
 /// Calls on contents, classes or matrices alone: refusals 9, 3, 4, 5, 10 in this order.
+pub fn class_count(registers: usize, constants: usize) -> Result<usize, Refusal> {
+    if constants > 2 {
+        return Err(alone(3));
+    }
+    let constants: Vec<u32> = (0..constants as u32).collect();
+    counts(registers, &constants)?;
+    Ok(Classes::of(registers, &constants).count())
+}
+
+/// A buffer to which a call writes so many numbers.
+pub fn room(written: u64, lent: usize) -> Result<(), Refusal> {
+    if (lent as u64) < written {
+        return Err(alone(9));
+    }
+    Ok(())
+}
+
 pub fn class_of_contents(registers: usize, constants: &[u32], contents: &[u32]) -> Result<usize, Refusal> {
     if contents.len() != registers {
         return Err(alone(9));
     }
     counts(registers, constants)?;
-    Ok(Classes::new(registers, constants).number(contents))
+    Ok(Classes::of(registers, constants).number(contents))
 }
 
 pub fn contents_of_class(registers: usize, constants: &[u32], class: usize) -> Result<Vec<u32>, Refusal> {
     counts(registers, constants)?;
-    let classes = Classes::new(registers, constants);
+    let classes = Classes::of(registers, constants);
     if class >= classes.count() {
         return Err(alone(5));
     }
     Ok(classes.contents(class)[..registers].to_vec())
+}
+
+pub fn matrix_of_contents(registers: usize, constants: &[u32], contents: &[u32]) -> Result<Vec<u32>, Refusal> {
+    class_of_contents(registers, constants, contents)?;
+    Ok(matrix_of(constants, contents))
 }
 
 pub fn matrix_of_class(registers: usize, constants: &[u32], class: usize) -> Result<Vec<u32>, Refusal> {
@@ -132,8 +169,13 @@ pub fn class_of_matrix(registers: usize, constants: &[u32], matrix: &[u32]) -> R
         return Err(alone(9));
     }
     counts(registers, constants)?;
-    let classes = Classes::new(registers, constants);
+    let classes = Classes::of(registers, constants);
     (0..classes.count())
         .find(|&k| matrix_of(constants, &classes.contents(k)[..registers]) == matrix)
         .ok_or(alone(10))
+}
+
+pub fn contents_of_matrix(registers: usize, constants: &[u32], matrix: &[u32]) -> Result<Vec<u32>, Refusal> {
+    let class = class_of_matrix(registers, constants, matrix)?;
+    contents_of_class(registers, constants, class)
 }

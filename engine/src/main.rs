@@ -144,7 +144,7 @@ fn answer() -> Option<Vec<u8>> {
         ["expect", dir] => format!("{} cases\n", expect(Path::new(dir)).ok()?),
         ["trials", folder] | ["trials", folder, _] => {
             let seed = words.get(2).map_or(Some(trials::SEED), |w| w.parse().ok())?;
-            trials::write_all(Path::new(folder), seed).ok()?;
+            trials::write(Path::new(folder), seed)?.ok()?;
             String::new()
         }
         ["mutate", seed, file] => {

@@ -5,8 +5,8 @@ use mathlib.Core.Bool.{not, cond}
 use mathlib.Core.List.{List, [], _∷_}
 use mathlib.Core.Path.{_≡_, refl, ap}
 use native.Mathlib.Omega.{arith}
-use lib.Dec.{T, leb→le}
-use lib.Ieee.Fits.{and-l, and-r}
+use lib.Dec.{T, leb, leb→le, le→leb}
+use lib.Ieee.Fits.{and-i, and-l, and-r}
 use lib.ListN.{length}
 use Rattle.graphs.specs.Lists.{item, allOf}
 use Rattle.graphs.proofs.Lists.{and-elim, allOf-agree, getD-map}
@@ -15,10 +15,13 @@ use Rattle.classes.proofs.Renamings.{eqb-renamed}
 use Rattle.automata.specs.Automaton.{Term, Condition, Assignment, value, meets}
 use Rattle.automata.specs.Automaton.Term.{register, parameter, constant}
 use Rattle.automata.specs.WellFormed.{inside, fitsTerm, fitsCondition, fitsAssignment}
-use Rattle.automata.specs.Configurations.{written, held}
+use Rattle.automata.specs.ConfigurationGraph.{written, held}
 
 pub inside→ : (n i : ℕ) → T (inside n i) → (1 ≤ i) × (i ≤ n)
 inside→ n i t = (leb→le 1 i (search and-l), leb→le i n (search (and-l, and-r)))
+
+pub →inside : (n i : ℕ) → 1 ≤ i → i ≤ n → T (inside n i)
+→inside n i low high = and-i (leb 1 i) (leb i n) (le→leb 1 i low) (le→leb i n high)
 
 module _ (π : Renaming) where
   pub nth-renamed : (xs : List ℕ) (i : ℕ) → T (inside (length xs) i) → item (rename π xs) i ≡ π .to (item xs i)

@@ -13,8 +13,11 @@ use Rattle.graphs.specs.Lists.{eqList, allOf, select}
 use Rattle.graphs.specs.Formulas.{Formula}
 use Rattle.graphs.specs.Search.{Walk, steps}
 use Rattle.graphs.proofs.Lists.{and-elim, allOf-mem, eqList→eq, getD-mem, mem-select, select-mem}
-use Rattle.classes.specs.Classes.{labels, lists, index, Representatives, contents}
-use Rattle.classes.specs.Matrix.{matrix, classOfMatrix, ClassAnswer}
+use Rattle.classes.specs.Classes.{labels, lists, index}
+use Rattle.classes.specs.Contents.{contents}
+use Rattle.classes.specs.Renaming.{Representatives}
+use Rattle.classes.specs.Matrix.{matrix}
+use Rattle.classes.specs.MatrixClasses.{classOfMatrix, ClassAnswer}
 use Rattle.classes.proofs.Labels.{labels-class}
 use Rattle.classes.proofs.Catalogue.{lists-mem, lists-ascending, index-getD}
 use Rattle.classes.proofs.Contents.{representatives, contents-labels, contents-length}
@@ -23,7 +26,8 @@ use Rattle.automata.specs.Automaton.{Automaton}
 use Rattle.automata.specs.Runs.{State, Move, Target, Shortest, Never, initial, isRun, final, hits}
 use Rattle.automata.specs.Questions.{Atom, HoldsAtStarts}
 use Rattle.automata.specs.WellFormed.{wellFormed, Proper, constantCount}
-use Rattle.automata.specs.Configurations.{Configuration, configuration, conf, classes, stepConf, configurations}
+use Rattle.automata.specs.Configurations.{Configuration, configuration, conf, classes}
+use Rattle.automata.specs.ConfigurationGraph.{stepConf, configurations}
 use Rattle.automata.specs.Answers.{nearestTo, Verdict, failing, Reply}
 use Rattle.automata.specs.Examples.{Claim, Means, check, examples, state, isNone, isSome, takes, eqConfigurations}
 use Rattle.automata.specs.Examples.Claim.{classCount, classList, noClass, successors, shortest, never, holds, fails}

@@ -1,22 +1,25 @@
 -- A renaming that fixes the constants takes steps to steps; so a step between configurations comes to each state of the second (source 001, section 3).
 -- Assumes nothing.
-use Prim.Native.Nat.{ℕ}
-use mathlib.Core.List.{List}
-use mathlib.Core.Path.{_≡_, refl, sym, ap, _∙_, subst⁻¹}
+use Prim.Native.Nat.{ℕ, _<_}
+use mathlib.Core.Bool.{false}
+use mathlib.Core.List.{List, []}
+use mathlib.Core.Path.{_≡_, refl, sym, ap, _∙_, subst, subst⁻¹}
 use lib.Dec.{T, eqb, leb}
 use lib.Ieee.Fits.{and-i, and-l, and-r}
-use lib.ListN.{length, length-map}
+use lib.ListN.{length, getD, length-map}
+use Rattle.graphs.specs.Graph.{In}
 use Rattle.classes.specs.Renaming.{Renaming, rename}
 use Rattle.classes.specs.Classes.{labels}
 use Rattle.classes.proofs.Labels.{labels-renamed, same-class}
 use Rattle.automata.specs.Automaton.{Transition, Automaton}
 use Rattle.automata.specs.Runs.{State, Move, transitionOf, makes, isStep, Step}
 use Rattle.automata.specs.WellFormed.{wellFormed, fitsTransition, Proper, constantCount}
-use Rattle.automata.specs.Configurations.{Configuration, conf, stepConf, Listed}
+use Rattle.automata.specs.Configurations.{Configuration, conf, number, Related}
+use Rattle.automata.specs.ConfigurationGraph.{stepConf, rows, Listed}
 use Rattle.automata.proofs.Equivariance.{guard-agrees, written-renamed, held-renamed}
 use Rattle.automata.proofs.StepClasses.{makes-few, makes-wide, makes-guard, makes-held, makes-intro, fits-assigns, fits-guard}
-use Rattle.automata.proofs.Numbering.{configuration-path}
-use Rattle.automata.proofs.ClassBisimulation.{wf-constants, wf-transition, move-transition, move-makes, step-back, conf-listed, listed-conf}
+use Rattle.automata.proofs.Numbering.{configuration-path, rows-length}
+use Rattle.automata.proofs.ClassBisimulation.{wf-constants, wf-transition, move-transition, move-makes, step-back, conf-listed, listed-conf, related-test, related-state, row-of}
 
 abbrev pub renamedState : Renaming → State → State
 renamedState π s = record { location = s .location; valuation = rename π (s .valuation) }
@@ -65,3 +68,11 @@ module _ (a : Automaton) (wf : T (wellFormed a)) where
         conf-renamed a wf π fixed s₀ ∙ e₀,
         record { move = renamedMove π m; fits = step-renamed a wf π fixed s₀ m p₀ (one .fits); ends = λ i. record { location = there i; valuation = held i } },
       )
+
+  -- the same of the graph's nodes
+  pub edge-into : (i j : ℕ) (y : State) → i < length (rows a) → Related a y j → In (getD (rows a) i []) j → (x : State) × Related a x i × Step a x y
+  edge-into i j y h d e =
+      let (x₀, b) = related-state a wf i (rw (rows-length a) at h) in
+      let same : getD (getD (rows a) i []) j false ≡ stepConf a (conf a x₀) (conf a y) = ap (λ r. getD r j false) (row-of a wf x₀ i b) ∙ related-test a wf (stepConf a (conf a x₀)) y j d in
+      let (x, p, c, st) = step-into (conf a x₀) y (conf-listed a wf x₀ (b .proper)) (d .proper) (subst T same e) in
+      (x, record { proper = p; named = ap (number a) c ∙ b .named }, st)

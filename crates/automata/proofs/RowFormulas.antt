@@ -14,19 +14,13 @@ use Rattle.graphs.specs.Formulas.Formula.{truth}
 use Rattle.automata.specs.Automaton.{Automaton}
 use Rattle.automata.specs.Questions.{Atom, Row, Kind, kinds, rowOf, rowFormula, formulasFrom, rowFormulas}
 use Rattle.automata.specs.Questions.Use.{rowNumber, unused}
-use Rattle.automata.specs.WellFormed.{constantCount, fitsFormula, fitsUse, fitsRow, fitsRows, fitsQuestion, inside}
+use Rattle.automata.specs.WellFormed.{constantCount, fitsUse, fitsRow, fitsRows, fitsQuestion, inside}
+use Rattle.automata.specs.FormulaFits.{fitsFormula}
 
 -- there are as many formulas as rows
 pub formulas-length : (fs : List (Formula Atom)) (rs : List Row) → length (formulasFrom fs rs) ≡ length fs + length rs
 formulas-length fs [] = omega arith
 formulas-length fs (r ∷ rs) = formulas-length (fs ++ (rowFormula fs r ∷ [])) rs ∙ omega (arith, length-append fs (rowFormula fs r ∷ []))
-
--- what follows changes no formula
-pub formulas-kept : (fs : List (Formula Atom)) (rs : List Row) (i : ℕ) → i < length fs → getD (formulasFrom fs rs) i truth ≡ getD fs i truth
-formulas-kept fs [] i h = refl
-formulas-kept fs (r ∷ rs) i h =
-    formulas-kept (fs ++ (rowFormula fs r ∷ [])) rs i (omega (arith, length-append fs (rowFormula fs r ∷ [])))
-    ∙ List·getD-append fs (rowFormula fs r ∷ []) truth i h
 
 -- a formula in a list of formulas that fit, or truth past its end
 fits-at : (a : Automaton) (fs : List (Formula Atom)) (i : ℕ) → T (allOf (fitsFormula a) fs) → T (fitsFormula a (getD fs i truth))

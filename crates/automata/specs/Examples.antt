@@ -12,16 +12,19 @@ use Rattle.graphs.specs.Lists.{eqList, select}
 use Rattle.graphs.specs.Formulas.{Formula, AF}
 use Rattle.graphs.specs.Formulas.Formula.{atom, EG}
 use Rattle.graphs.specs.Search.{Walk, steps}
-use Rattle.classes.specs.Renaming.{SameClass, Distinct}
-use Rattle.classes.specs.Classes.{labels, lists, Representatives}
-use Rattle.classes.specs.Matrix.{matrix, classOfMatrix}
+use Rattle.classes.specs.Renaming.{SameClass, Distinct, Representatives}
+use Rattle.classes.specs.Classes.{labels, lists}
+use Rattle.classes.specs.Matrix.{matrix}
+use Rattle.classes.specs.MatrixClasses.{classOfMatrix}
 use Rattle.automata.specs.Automaton.{Term, Condition, Assignment, Automaton}
 use Rattle.automata.specs.Automaton.Term.{register, parameter, constant}
 use Rattle.automata.specs.Runs.{State, Move, Target, Step, Shortest, Never, permitted, initial, isRun, final, hits}
 use Rattle.automata.specs.Questions.{Atom, Row, Holds, HoldsAtStarts, question}
 use Rattle.automata.specs.Questions.Atom.{at, equal}
-use Rattle.automata.specs.WellFormed.{wellFormed, inside, fitsTarget, fitsFormula}
-use Rattle.automata.specs.Configurations.{Configuration, configuration, conf, stepConf, configurations}
+use Rattle.automata.specs.WellFormed.{wellFormed, inside, fitsTarget}
+use Rattle.automata.specs.FormulaFits.{fitsFormula}
+use Rattle.automata.specs.Configurations.{Configuration, configuration, conf}
+use Rattle.automata.specs.ConfigurationGraph.{stepConf, configurations}
 use Rattle.automata.specs.Answers.{nearestTo, failing}
 
 pub data Claim : Type 0 where

@@ -7,13 +7,11 @@ use mathlib.Core.Path.{_≡_}
 use lib.Dec.{T, leb, eqb}
 use lib.ListN.{length}
 use Rattle.graphs.specs.Lists.{allOf}
-use Rattle.graphs.specs.Formulas.{Formula, everyAtom}
 use Rattle.classes.specs.Renaming.{rising}
 use Rattle.automata.specs.Automaton.{Term, Condition, Assignment, Transition, Automaton, arity}
 use Rattle.automata.specs.Automaton.Term.{register, parameter, constant}
 use Rattle.automata.specs.Runs.{State, Target}
-use Rattle.automata.specs.Questions.{Atom, Row, Use, kindOf}
-use Rattle.automata.specs.Questions.Atom.{at, equal, is}
+use Rattle.automata.specs.Questions.{Row, Use, kindOf}
 use Rattle.automata.specs.Questions.Use.{locationNumber, registerNumber, constantNumber, rowNumber, unused}
 
 -- i is one of 1 to n
@@ -60,14 +58,6 @@ limited a =
 
 abbrev pub fitsTarget : Automaton → Target → Bool
 fitsTarget a g = inside (a .locations) (g .location) && fitsConditions a (g .conditions)
-
-abbrev pub fitsAtom : Automaton → Atom → Bool
-fitsAtom a (at l) = inside (a .locations) l
-fitsAtom a (equal i j) = inside (a .registers) i && inside (a .registers) j
-fitsAtom a (is i j) = inside (a .registers) i && inside (constantCount a) j
-
-abbrev pub fitsFormula : Automaton → Formula Atom → Bool
-fitsFormula a f = everyAtom (fitsAtom a) f
 
 -- the field names something that is there; n rows stand before
 abbrev pub fitsUse : Automaton → ℕ → Use → ℕ → Bool

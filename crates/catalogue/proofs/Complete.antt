@@ -1,13 +1,14 @@
 -- The catalogue is legal, rising and complete: its rows are the lists for five registers and two constants.
 -- Assumes nothing.
-use Prim.Native.Nat.{ℕ, zero, suc, _≤_, _<_, max}
+use Prim.Native.Nat.{ℕ, zero, suc, _<_}
 use mathlib.Core.List.{List, [], _∷_, flatMap, List·Memᴰ}
 use mathlib.Core.Path.{_≡_, refl, subst, _∙_}
 use native.Mathlib.Omega.{arith}
 use lib.ListN.{length, getD}
 use Rattle.graphs.specs.Lists.{Dictionary}
 use Rattle.graphs.proofs.Lists.{getD-mem, mem-getD}
-use Rattle.classes.specs.Classes.{Legal, lists, Ascending}
+use Rattle.classes.specs.Classes.{lists}
+use Rattle.classes.specs.Contents.{Legal, Ascending}
 use Rattle.classes.proofs.Catalogue.{mem-lists, lists-mem, lists-ascending}
 use Rattle.catalogue.specs.FlatCatalogue.{catalogue, row, Complete}
 use Rattle.catalogue.proofs.Copying.{flat-length, flat-row}
@@ -47,9 +48,3 @@ catalogue-complete = record {
       let (n, h, f) = mem-getD [] listed in
       (n, omega (arith, catalogue-count), catalogue-row n (omega (arith, catalogue-count)) ∙ f);
 }
-
--- a legal list's labels are at least 1
-pub legal-positive : (b : ℕ) (k : List ℕ) → Legal b k → (i : ℕ) → i < length k → 1 ≤ getD k i 0
-legal-positive b [] h i a = absurd (omega arith)
-legal-positive b (x ∷ k) h zero a = h .0
-legal-positive b (x ∷ k) h (suc i) a = legal-positive (max b x) k (h .2) i (omega arith)

@@ -6,17 +6,13 @@ use mathlib.Core.Path.{_≡_, sym, ap, _∙_}
 use native.Mathlib.Omega.{arith}
 use lib.ListN.{length, getD, take, drop}
 use lib.Seq.{paste, take-all}
-use Rattle.classes.specs.Classes.{Legal, lists}
+use Rattle.classes.specs.Classes.{lists}
+use Rattle.classes.specs.Contents.{Legal}
 use Rattle.lists.specs.Arrays.{padded}
 use Rattle.lists.proofs.Arrays.{padded-length, padded-entry}
 use Rattle.catalogue.specs.Serving.{labelRows}
 use Rattle.catalogue.proofs.Copying.{flat-length, flat-row, row-entry, overlay, overlay-row}
 use Rattle.catalogue.proofs.Complete.{lists-legal}
-
-legal-entry : (b : ℕ) (k : List ℕ) (i : ℕ) → Legal b k → getD k i 0 ≤ b + length k
-legal-entry b [] i l = omega arith
-legal-entry b (x ∷ k) zero (low, high, rest) = omega arith
-legal-entry b (x ∷ k) (suc i) (low, high, rest) = omega (arith, legal-entry (max b x) k i rest)
 
 module _ (r c : ℕ) (h : r ≤ 5) where
   pub label-rows-length : length (labelRows r c) ≡ length (lists r c) * 5

@@ -1,32 +1,35 @@
 -- The matrix of a valuation, row by row, and the valuation that is made from a matrix.
 -- Assumes nothing.
 use Prim.Native.Nat.{ℕ, zero, suc, _+_, _*_, _-_, _≤_, _<_}
-use mathlib.Core.Bool.{cond}
+use mathlib.Core.Bool.{cond, not}
 use mathlib.Core.List.{List, [], _∷_, map, flatMap, List·Memᴰ, List·Memᴰ·head, List·Memᴰ·tail}
 use mathlib.Core.Logic.{_≢_, by-cases}
 use mathlib.Core.Option.{Option, none, some}
 use mathlib.Core.Path.{_≡_, refl, sym, ap, ap₂, _∙_, subst}
 use native.Mathlib.Decide.{ℕ-discrete, decLe, decLt}
 use native.Mathlib.Nat.{mul-le-mul-right}
-use native.Mathlib.Numerals.{add-one}
 use native.Mathlib.Omega.{arith}
 use borrow.Author.Tests.{eq-eqb, ne-eqb, lt-ltb, le-ltb, le-leb, lt-leb}
 use lib.Dec.{eqb, leb}
-use lib.ListN.{length, getD, take, drop, length-map, drop-of-length-le}
-use lib.Seq.{paste, drop-cons, length-take-le, getD-take, take-all, take-at, ext-getD}
+use lib.ListN.{length, getD, take, drop, length-map}
+use lib.Seq.{take-length, paste, length-take-le, getD-take, take-all, take-at, ext-getD}
 use Rattle.graphs.specs.Lists.{upFrom, eqList, table}
 use Rattle.graphs.proofs.Lists.{eqList→eq, getD-map, table-length, table-getD, upFrom-length, upFrom-getD, entry-below, First, first-is}
-use Rattle.classes.specs.Classes.{position, labels, Legal, lists}
-use Rattle.classes.specs.Matrix.{cell, matrix, classMatrix, classOfMatrix}
+use Rattle.classes.specs.Classes.{position, labels, lists}
+use Rattle.classes.specs.Contents.{Legal}
+use Rattle.classes.specs.Matrix.{cell, matrix, classMatrix}
+use Rattle.classes.specs.MatrixClasses.{classOfMatrix}
 use Rattle.classes.proofs.Catalogue.{lists-mem}
 use Rattle.classes.proofs.Labels.{position-cons-same, position-cons-other, position-found}
-use Rattle.classes.proofs.Legal.{labels-length, labels-legal, upFrom-distinct}
-use Rattle.classes.proofs.Matrices.{matrix-labels, class-of-matrix-is}
+use Rattle.classes.proofs.Legal.{labels-length, labels-legal, upFrom-distinct, upFrom-position}
+use Rattle.classes.proofs.Matrices.{matrix-labels, class-of-matrix-is, cell-other}
 use Rattle.lists.specs.Arrays.{padded, written}
+use Rattle.lists.proofs.Searches.{first-agree}
 use Rattle.labelling.proofs.Noted.{marks-take}
-use Rattle.catalogue.specs.MatrixCells.{firstEqual, registerOf, valuationOf}
+use Rattle.labelling.proofs.NotedTurns.{isAt, position-first}
+use Rattle.catalogue.specs.MatrixCells.{isEqual, firstEqual, registerOf, valuationOf}
 use Rattle.catalogue.proofs.Copying.{flat-row, overlay, overlay-row, padded-front}
-use Rattle.catalogue.proofs.Complete.{legal-positive}
+use Rattle.classes.proofs.GivenBack.{legal-low}
 
 -- The entries of a row
 
@@ -37,9 +40,6 @@ module _ (cs : List ℕ) where
   pub own-other : (x : ℕ) → length cs ≤ position cs x → cell cs x x ≡ 1
   own-other x h = rw (eq-eqb x x refl, le-ltb (position cs x) (length cs) h)
 
-  pub cell-other : (x y : ℕ) → x ≢ y → cell cs x y ≡ 0
-  cell-other x y n = rw (ne-eqb x y n)
-
   own-positive : (x : ℕ) → 1 ≤ cell cs x x
   own-positive x = by-cases (decLt (position cs x) (length cs)) (λ h. omega (arith, own-constant x h)) (λ h. omega (arith, own-other x (omega arith)))
 
@@ -48,16 +48,11 @@ module _ (cs : List ℕ) where
   cells-own x [] = refl
   cells-own x (y ∷ v) = rw (eq-eqb x x refl) (cc (rw (eq-eqb x x refl) at (cells-own x v)))
 
-  -- the entries say which register is the first equal one
-  first-equal-row : (x : ℕ) (v : List ℕ) → firstEqual (map (cell cs x) v) ≡ position v x
-  first-equal-row x [] = refl
-  first-equal-row x (y ∷ v) = by-cases (ℕ-discrete y x)
-      (λ e.
-      let n : cell cs x y ≢ 0 = λ z. omega (arith, own-positive x, ap (cell cs x) e) in
-      ap (λ b. cond b (suc (firstEqual (map (cell cs x) v))) 0) (ne-eqb (cell cs x y) 0 n) ∙ sym (position-cons-same y x v e))
-      (λ n.
-      ap (λ b. cond b (suc (firstEqual (map (cell cs x) v))) 0) (eq-eqb (cell cs x y) 0 (cell-other x y (λ e. n (sym e))))
-      ∙ ap suc (first-equal-row x v) ∙ sym (position-cons-other y x v n))
+  -- an entry is 0 where the two differ
+  cell-equal : (x y : ℕ) → not (eqb (cell cs x y) 0) ≡ eqb y x
+  cell-equal x y = by-cases (ℕ-discrete y x)
+      (λ e. ap not (ne-eqb (cell cs x y) 0 (λ z. omega (arith, own-positive x, ap (cell cs x) e))) ∙ sym (eq-eqb y x e))
+      (λ n. ap not (eq-eqb (cell cs x y) 0 (cell-other cs x y (λ e. n (sym e)))) ∙ sym (ne-eqb y x n))
 
   module _ (v : List ℕ) where
     pub matrix-length : length (matrix cs v) ≡ length v * length v
@@ -65,6 +60,13 @@ module _ (cs : List ℕ) where
 
     matrix-row : (i : ℕ) → i < length v → take (length v) (drop (i * length v) (matrix cs v)) ≡ map (cell cs (getD v i 0)) v
     matrix-row i h = flat-row (λ x. map (cell cs x) v) (length v) v 0 (λ x m. length-map v (cell cs x)) i h
+
+    -- the entries say which register is the first equal one
+    first-equal-row : (i : ℕ) → i < length v → firstEqual (matrix cs v) (i * length v) (length v) ≡ position v (getD v i 0)
+    first-equal-row i h =
+        first-agree (isEqual (matrix cs v) (i * length v)) (isAt v (getD v i 0)) 0 (length v)
+        (λ j l k. ap (λ y. not (eqb y 0)) (table-getD (cell cs) v v i j 0 0 0 h (omega arith)) ∙ cell-equal (getD v i 0) (getD v j 0))
+        ∙ position-first v (length v) (getD v i 0) (omega arith) ∙ ap (λ u. position u (getD v i 0)) (take-length v)
 
     -- one row more
     pub matrix-more : (r : ℕ) (buffer : List ℕ) (i : ℕ) → length v ≡ r → i < r → r * r ≤ length buffer
@@ -92,47 +94,20 @@ row-fits r i h = omega (arith, mul-le-mul-right r h)
 pub square-fits : (r : ℕ) → r ≤ 5 → r * r ≤ 25
 square-fits r h = omega (arith, mul-le-mul-right r h)
 
--- The search for the first equal register: its place, counted from j, in what is left
-
-abbrev pub Equal : List ℕ → ℕ → Type 0
-Equal s j = firstEqual s ≡ j + firstEqual (drop j s)
-
-module _ (s : List ℕ) (j x : ℕ) (q : Equal s j) where
-  pub equal-found : j < length s → getD s j 0 ≡ x → x ≢ 0 → j ≡ firstEqual s
-  equal-found h e n =
-      let z : firstEqual (drop j s) ≡ 0 = rw (drop-cons s j 0 h, e, ne-eqb x 0 n) in
-      omega arith
-
-  pub equal-passed : j < length s → getD s j 0 ≡ x → x ≡ 0 → Equal s (j + 1)
-  equal-passed h e n =
-      let z : firstEqual (drop j s) ≡ suc (firstEqual (drop (suc j) s)) = rw (drop-cons s j 0 h, e, eq-eqb x 0 n) in
-      rw add-one (omega arith)
-
-  pub equal-ended : length s ≤ j → j ≡ firstEqual s
-  equal-ended h =
-      let z : firstEqual (drop j s) ≡ 0 = rw (drop-of-length-le s {i = j} h) in
-      omega arith
-
 -- The valuation of a matrix
 
 pub valuation-length : (r : ℕ) (m : List ℕ) → length (valuationOf r m) ≡ r
 unfolding valuationOf
-valuation-length r m = length-map (upFrom 0 r) (λ i. registerOf (getD m (i * r + i) 0) (take r (drop (i * r) m))) ∙ upFrom-length 0 r
+valuation-length r m = length-map (upFrom 0 r) (λ i. registerOf (getD m (i * r + i) 0) (firstEqual m (i * r) r)) ∙ upFrom-length 0 r
 
-pub valuation-entry : (r : ℕ) (m : List ℕ) (i : ℕ) → i < r → getD (valuationOf r m) i 0 ≡ registerOf (getD m (i * r + i) 0) (take r (drop (i * r) m))
+pub valuation-entry : (r : ℕ) (m : List ℕ) (i : ℕ) → i < r → getD (valuationOf r m) i 0 ≡ registerOf (getD m (i * r + i) 0) (firstEqual m (i * r) r)
 unfolding valuationOf
 valuation-entry r m i h =
     let e : getD (upFrom 0 r) i 0 ≡ i = upFrom-getD 0 r i h ∙ omega arith in
-    getD-map (λ i. registerOf (getD m (i * r + i) 0) (take r (drop (i * r) m))) (upFrom 0 r) i 0 0 (omega (arith, upFrom-length 0 r))
-    ∙ ap (λ i. registerOf (getD m (i * r + i) 0) (take r (drop (i * r) m))) e
+    getD-map (λ i. registerOf (getD m (i * r + i) 0) (firstEqual m (i * r) r)) (upFrom 0 r) i 0 0 (omega (arith, upFrom-length 0 r))
+    ∙ ap (λ i. registerOf (getD m (i * r + i) 0) (firstEqual m (i * r) r)) e
 
 -- positions among the constants' labels
-mark-old : (i n x : ℕ) → i ≤ x → x < i + n → i + position (upFrom i n) x ≡ x
-mark-old i zero x h l = absurd (omega arith)
-mark-old i (suc n) x h l = by-cases (ℕ-discrete i x)
-    (λ e. omega (arith, position-cons-same i x (upFrom (suc i) n) e))
-    (λ d. omega (arith, position-cons-other i x (upFrom (suc i) n) d, mark-old (suc i) n x (omega arith) (omega arith)))
-
 mark-new : (i n x : ℕ) → i + n ≤ x → position (upFrom i n) x ≡ n
 mark-new i zero x h = refl
 mark-new i (suc n) x h = position-cons-other i x (upFrom (suc i) n) (λ e. omega arith) ∙ ap suc (mark-new (suc i) n x (omega arith))
@@ -170,20 +145,18 @@ module _ (c : ℕ) (k : List ℕ) (small : c ≤ 2) (legal : Legal c k) where
 
   own-label : (x : ℕ) → 1 ≤ x → x ≤ c → cell (upFrom 1 c) x x ≡ suc x
   own-label x l h =
-      let p = mark-old 1 c x l (omega arith) in
+      let p = upFrom-position 1 c x l (omega arith) in
       own-constant (upFrom 1 c) x (omega (arith, upFrom-length 1 c)) ∙ omega arith
 
   own-block : (x : ℕ) → c < x → cell (upFrom 1 c) x x ≡ 1
   own-block x h = own-other (upFrom 1 c) x (omega (arith, upFrom-length 1 c, mark-new 1 c x (omega arith)))
 
-  register-given : (x : ℕ) → 1 ≤ x → registerOf (cell (upFrom 1 c) x x) (map (cell (upFrom 1 c) x) k) ≡ given x
+  register-given : (x : ℕ) → 1 ≤ x → registerOf (cell (upFrom 1 c) x x) (position k x) ≡ given x
   register-given x l = by-cases (decLe x c)
       (λ h.
       let e : suc x - 1 ≡ x = omega arith in
-      ap (λ d. registerOf d (map (cell (upFrom 1 c) x) k)) (own-label x l h) ∙ rw (le-leb 2 (suc x) (omega arith), e) (sym (given-constant x h)))
-      (λ h.
-      ap (λ d. registerOf d (map (cell (upFrom 1 c) x) k)) (own-block x (omega arith))
-      ∙ ap (λ p. 3 + p) (first-equal-row (upFrom 1 c) x k) ∙ sym (given-block x (omega arith)))
+      ap (λ d. registerOf d (position k x)) (own-label x l h) ∙ rw (le-leb 2 (suc x) (omega arith), e) (sym (given-constant x h)))
+      (λ h. ap (λ d. registerOf d (position k x)) (own-block x (omega arith)) ∙ sym (given-block x (omega arith)))
 
   -- from the matrix of a class each register gets the identifier of its label
   valuation-given : valuationOf (length k) (classMatrix c k) ≡ map given k
@@ -192,8 +165,8 @@ module _ (c : ℕ) (k : List ℕ) (small : c ≤ 2) (legal : Legal c k) where
       ext-getD 0 (valuationOf (length k) (classMatrix c k)) (map given k) (len ∙ sym (length-map k given)) (λ i h.
       let l : i < length k = omega arith in
       valuation-entry (length k) (classMatrix c k) i l
-      ∙ ap₂ registerOf (table-getD (cell (upFrom 1 c)) k k i i 0 0 0 l l) (matrix-row (upFrom 1 c) k i l)
-      ∙ register-given (getD k i 0) (legal-positive c k legal i l)
+      ∙ ap₂ registerOf (table-getD (cell (upFrom 1 c)) k k i i 0 0 0 l l) (first-equal-row (upFrom 1 c) k i l)
+      ∙ register-given (getD k i 0) (legal-low c k i legal l)
       ∙ sym (getD-map given k i 0 0 l))
 
   given-kept : (x y : ℕ) → List·Memᴰ x k → List·Memᴰ y k → given x ≡ given y → x ≡ y

@@ -1,21 +1,22 @@
 -- The lists for fewer registers and constants are rows of the catalogue, narrowed: one test, computed for every r ≤ 5 and c ≤ 2.
 -- Assumes nothing.
-use Prim.Native.Nat.{ℕ, zero, suc, _+_, _*_, _-_, _≤_, _<_}
-use mathlib.Core.Bool.{Bool, true, false, _&&_, _||_}
+use Prim.Native.Nat.{ℕ, suc, _+_, _*_, _-_, _≤_, _<_}
+use mathlib.Core.Bool.{Bool, true, false, _&&_}
 use mathlib.Core.List.{List, [], _∷_, map, map-map, flatMap}
 use mathlib.Core.Path.{_≡_, refl, sym, ap, _∙_}
 use native.Mathlib.Nat.{sub-zero}
 use native.Mathlib.Numerals.{add-one}
 use native.Mathlib.Omega.{arith}
-use lib.Dec.{T, leb, ltb}
-use lib.ListN.{length, getD, take, drop, set, length-map, length-drop, drop-of-length-le}
-use lib.Seq.{drop-cons, length-take-le, getD-take}
+use lib.Dec.{T}
+use lib.ListN.{length, getD, take, drop, set, length-map, length-drop}
+use lib.Seq.{length-take-le, getD-take}
 use Rattle.graphs.specs.Lists.{upFrom, eqList, select}
 use Rattle.graphs.proofs.Lists.{and-elim, eqList→eq, getD-map, getD-mem, select-mem, upFrom-mem}
 use Rattle.classes.specs.Classes.{lists}
 use Rattle.lists.specs.Arrays.{written}
+use Rattle.lists.specs.Searches.{allFrom}
 use Rattle.catalogue.specs.FlatCatalogue.{catalogue, row}
-use Rattle.catalogue.specs.Serving.{servesLabel, serves, narrow, narrowRow, servingRows}
+use Rattle.catalogue.specs.Serving.{serves, narrow, narrowRow, servingRows}
 use Rattle.catalogue.proofs.Tested.{below, below-pair}
 use Rattle.catalogue.proofs.Copying.{drop-head, overlay, overlay-next, overlay-all, row-entry}
 use Rattle.catalogue.proofs.Complete.{catalogue-count, catalogue-row, lists-legal}
@@ -34,7 +35,7 @@ right : ℕ → ℕ → Bool
 right r c = eqRows (map (narrowRow r c) (select (serves r c) (lists 5 2))) (lists r c)
 
 tested : T (below 6 (λ r. below 3 (right r)))
-unfolding right serves narrow flatMap
+unfolding right serves allFrom narrow flatMap
 tested = tt
 
 narrowed : (r c : ℕ) → r ≤ 5 → c ≤ 2 → map (narrowRow r c) (select (serves r c) (lists 5 2)) ≡ lists r c
@@ -101,25 +102,6 @@ serving-label r c number i h k l b =
     ap (narrow c) (sym (getD-take r (row catalogue n) i 0 b ∙ row-entry catalogue 5 n i (omega arith)))
     ∙ sym (getD-map (narrow c) (take r (row catalogue n)) i 0 0 (omega (arith, length-take-le r (row catalogue n) (omega arith))))
     ∙ ap (λ q. getD q i 0) (serving-row r c number h k l)
-
--- The test of a row, label by label
-
-module _ (r c : ℕ) (k : List ℕ) (i left : ℕ) (e : serves r c k ≡ serves left c (drop i k)) where
-  pub serves-passed : i < length k → servesLabel left c (getD k i 0) ≡ true → serves r c k ≡ serves (left - 1) c (drop (i + 1) k)
-  unfolding serves
-  serves-passed h t = e ∙ rw (add-one i, drop-cons k i 0 h, t)
-
-  pub serves-failed : i < length k → servesLabel left c (getD k i 0) ≡ false → serves r c k ≡ false
-  unfolding serves
-  serves-failed h t = e ∙ rw (drop-cons k i 0 h, t)
-
-  pub serves-ended : length k ≤ i → serves r c k ≡ true
-  unfolding serves
-  serves-ended h = e ∙ rw (drop-of-length-le k {i = i} h)
-
-pub servesLabel-register : (left c x : ℕ) → (left ≡ 0 → ⊥) → servesLabel left c x ≡ (leb x c || ltb 2 x)
-servesLabel-register zero c x z = absurd (z refl)
-servesLabel-register (suc left) c x z = refl
 
 -- Filling the list of row numbers: the rows up to n are tested, and `count` of them are written
 

@@ -11,7 +11,8 @@ use lib.ListN.{length, getD, drop, drop-of-length-le, length-append, length-map,
 use lib.Seq.{drop-cons, getD-append-add}
 use Rattle.graphs.specs.Lists.{upFrom}
 use Rattle.graphs.proofs.Lists.{getD-map}
-use Rattle.classes.specs.Classes.{Legal, lists, index}
+use Rattle.classes.specs.Classes.{lists, index}
+use Rattle.classes.specs.Contents.{Legal}
 use Rattle.classes.proofs.Catalogue.{lists-ascending, index-getD}
 use Rattle.catalogue.specs.Numbers.{listCount, rank}
 use Rattle.catalogue.proofs.Tested.{below, below-pair}

@@ -5,7 +5,8 @@ use mathlib.Core.List.{List, flatMap}
 use mathlib.Core.Path.{_≡_}
 use lib.ListN.{length, take, drop}
 use Rattle.graphs.specs.Lists.{Dictionary}
-use Rattle.classes.specs.Classes.{Legal, lists}
+use Rattle.classes.specs.Classes.{lists}
+use Rattle.classes.specs.Contents.{Legal}
 
 -- the catalogue, five labels to a row
 unfoldable pub catalogue : List ℕ

@@ -2,13 +2,14 @@
 ghost use mathlib.Core.Path.{_≡_};
 ghost use mathlib.Core.Bool.{cond};
 ghost use mathlib.Core.List.{map};
-ghost use Prim.Native.Nat.{_+_, _*_, _-_, _<_, _≤_};
-ghost use lib.Dec.{eqb, leb};
-ghost use lib.ListN.{length, take, drop};
+ghost use Prim.Native.Nat.{_+_, _*_, _<_, _≤_};
+ghost use lib.Dec.{eqb};
+ghost use lib.ListN.{length, take};
 ghost use lib.Seq.{paste};
-ghost use Rattle.classes.specs.Matrix.{cell, matrix, classMatrix, classOfMatrix};
+ghost use Rattle.classes.specs.Matrix.{cell, matrix, classMatrix};
+ghost use Rattle.classes.specs.MatrixClasses.{classOfMatrix};
 ghost use Rattle.lists.specs.Arrays.{padded, written};
-ghost use Rattle.catalogue.specs.MatrixCells.{found, firstEqual, valuationOf};
+ghost use Rattle.catalogue.specs.MatrixCells.{found, firstEqual, registerOf, valuationOf};
 use crate::Found;
 use crate::numbers::class_of;
 
@@ -61,7 +62,7 @@ pub fn class_matrix(c: usize, labels: [u8; 5], r: usize, out: &mut [u8])
 // The first of the n entries from place `at` on that is not 0, counted from there; n where all are 0.
 fn first_equal(matrix: &[u8], at: usize, n: usize) -> u32
     requires { ⌜ (n ≤ 5) × (at + n ≤ length (now matrix)) ⌝ }
-    ensures { λ q. ⌜ (q ≡ firstEqual (take n (drop at (now (matrix .entry))))) × (q ≤ 5) ⌝ }
+    ensures { λ q. ⌜ (q ≡ firstEqual (now (matrix .entry)) at n) × (q ≤ 5) ⌝ }
 {
     let mut j: usize = 0;
     while j < n {
@@ -76,7 +77,7 @@ fn first_equal(matrix: &[u8], at: usize, n: usize) -> u32
 // An identifier for a register, by its entry on the diagonal and its first equal register.
 fn register_of(d: u8, first: u32) -> u32
     requires { ⌜ first ≤ 5 ⌝ }
-    ensures { λ q. ⌜ q ≡ cond (leb 2 d) (d - 1) (3 + first) ⌝ }
+    ensures { λ q. ⌜ q ≡ registerOf d first ⌝ }
 {
     if 2 <= d {
         return (d - 1) as u32;

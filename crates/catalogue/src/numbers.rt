@@ -2,7 +2,8 @@
 ghost use mathlib.Core.Path.{_≡_};
 ghost use Prim.Native.Nat.{_<_, _≤_, max};
 ghost use lib.ListN.{length, take};
-ghost use Rattle.classes.specs.Classes.{labels, Legal, lists, index};
+ghost use Rattle.classes.specs.Classes.{labels, lists, index};
+ghost use Rattle.classes.specs.Contents.{Legal};
 ghost use Rattle.catalogue.specs.Numbers.{listCount};
 use crate::scan::labels_of;
 

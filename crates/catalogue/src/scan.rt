@@ -3,7 +3,8 @@ ghost use mathlib.Core.Path.{_≡_};
 ghost use Prim.Native.Nat.{_≤_};
 ghost use lib.ListN.{take};
 ghost use Rattle.lists.specs.Arrays.{padded};
-ghost use Rattle.classes.specs.Classes.{labels, Legal, contents};
+ghost use Rattle.classes.specs.Classes.{labels};
+ghost use Rattle.classes.specs.Contents.{Legal, contents};
 
 // The labels of the contents of r registers; zeros after them.
 pub fn labels_of(constants: [u32; 2], c: usize, contents: [u32; 5], r: usize) -> [u8; 5]

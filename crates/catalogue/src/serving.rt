@@ -5,30 +5,21 @@ ghost use Prim.Native.Nat.{_+_, _*_, _-_, _<_, _≤_};
 ghost use lib.ListN.{length, getD};
 ghost use lib.Seq.{paste};
 ghost use Rattle.classes.specs.Classes.{lists};
-ghost use Rattle.lists.specs.Arrays.{padded, written, Begins};
+ghost use Rattle.lists.specs.Arrays.{padded, written};
+ghost use Rattle.lists.specs.Filling.{Begins};
 ghost use Rattle.catalogue.specs.FlatCatalogue.{catalogue, row};
 ghost use Rattle.catalogue.specs.Serving.{servesLabel, serves, narrow, servingRows, labelRows};
 use crate::numbers::class_count;
 use crate::numbers::wide16;
 
-// One less, and 0 at 0.
-fn less_one(n: usize) -> usize
-    ensures { λ r. ⌜ r ≡ n - 1 ⌝ }
+// May a label stand in a register, which is there or not, of a table with c constants?
+fn label_serves(there: bool, c: u8, x: u8) -> bool
+    ensures { λ r. ⌜ r ≡ servesLabel there c x ⌝ }
 {
-    if n == 0 { 0 } else { n - 1 }
-}
-
-// May a label stand where `left` registers are left, of a table with c constants?
-fn label_serves(left: usize, c: u8, x: u8) -> bool
-    ensures { λ r. ⌜ r ≡ servesLabel left c x ⌝ }
-{
-    if left == 0 {
-        return x == 1;
+    if there {
+        return (x <= c) | (2 < x);
     }
-    if x <= c {
-        return true;
-    }
-    2 < x
+    x == 1
 }
 
 // Does row n of the table serve r registers and c constants?
@@ -36,13 +27,11 @@ fn row_serves(table: &[u8], n: usize, r: usize, c: u8) -> bool
     requires { ⌜ (n < 674) × (n * 5 + 5 ≤ length (now table)) ⌝ }
     ensures { λ q. ⌜ q ≡ serves r c (row (now (table .entry)) n) ⌝ }
 {
-    let mut left = r;
     let mut i = 0;
     while i < 5 {
-        if !label_serves(left, c, table[n * 5 + i]) {
+        if !label_serves(i < r, c, table[n * 5 + i]) {
             return false;
         }
-        left = less_one(left);
         i += 1;
     }
     true

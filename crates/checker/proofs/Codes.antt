@@ -1,39 +1,37 @@
 -- The editor's numbers: those of the replies, over memory that is long enough.
 -- Assumes nothing.
 use Prim.Native.Nat.{ℕ, _≤_}
-use mathlib.Core.Bool.{true}
 use mathlib.Core.List.{List}
 use mathlib.Core.Option.{Option, none, some}
-use mathlib.Core.Path.{_≡_, refl, sym, ap, _∙_}
+use mathlib.Core.Path.{_≡_, sym, ap, _∙_}
 use native.Mathlib.Omega.{arith}
-use borrow.Author.Tests.{le-leb}
+use lib.Dec.{T}
+use lib.ListN.{length}
 use Rattle.refusals.specs.declared.Refusal.{Refusal}
 use Rattle.refusals.specs.Judged.{Judged}
 use Rattle.refusals.specs.Judged.Judged.{accepted, refused}
 use Rattle.graphs.specs.Search.{Walk}
+use Rattle.graphs.proofs.Lists.{T-true}
 use Rattle.automata.specs.Automaton.{Automaton}
 use Rattle.automata.specs.Questions.{question}
 use Rattle.automata.specs.Answers.{nearestTo, failing}
-use Rattle.forms.specs.TableForm.{automatonOf, targetOf}
-use Rattle.checker.specs.Files.{WithTarget, WithQuestion, targetFiles, questionFiles, reachFiles, searchRoom, askFiles}
-use Rattle.checker.specs.ReachReply.{foundReply, reachReply}
-use Rattle.checker.specs.AskReply.{rowsIn, askedReply, askReply}
-use Rattle.checker.specs.Editor.{reachCode, askCode}
-use Rattle.checker.specs.declared.Reaching.{Reaching}
-use Rattle.checker.specs.declared.Reaching.the-variants.{Refused}
-use Rattle.checker.specs.declared.Asking.{Asking}
-use Rattle.checker.specs.declared.Asking.the-variants.{Refused as notAsked}
+use Rattle.forms.specs.FormAutomaton.{automatonOf, targetOf}
+use Rattle.claims.specs.Files.{WithTarget, WithQuestion, targetFiles, questionFiles, ReachBuffers, searchRoom, reachFiles, AskBuffers, askFiles}
+use Rattle.claims.specs.ReachReply.{foundReply, reachReply}
+use Rattle.claims.specs.AskReply.{rowsIn, askedReply, askReply}
+use Rattle.claims.specs.Editor.{reachCode, askCode}
+use Rattle.claims.specs.declared.Reaching.{Reaching}
+use Rattle.claims.specs.declared.Reaching.the-variants.{Refused}
+use Rattle.claims.specs.declared.Asking.{Asking}
+use Rattle.claims.specs.declared.Asking.the-variants.{Refused as notAsked}
 use Rattle.checker.proofs.Filed.{ask-roomy}
 use Rattle.checker.proofs.Targeted.{reach-roomy}
 use Rattle.checker.proofs.RefusalNumbers.{target-files-low, question-files-low}
 
-module _ (w l k r p : ℕ) (s g : List ℕ) (hw : 337 ≤ w) (hl : 10784 ≤ l) (hk : 10784 ≤ k) (hr : 97061 ≤ r) (hp : 129420 ≤ p) (q : Reaching) (e : q ≡ reachReply (reachFiles w l k r p s g)) where
-  room : searchRoom w l k r p ≡ true
-  room = rw (le-leb 337 w hw, le-leb 10784 l hl, le-leb 10784 k hk, le-leb 97061 r hr, le-leb 129420 p hp) refl
-
+module _ (b : ReachBuffers) (s g : List ℕ) (room : T (searchRoom b)) (q : Reaching) (e : q ≡ reachReply (reachFiles b s g)) where
   -- the reply is that of the files alone
   same : q ≡ reachReply (targetFiles s g)
-  same = e ∙ ap reachReply (reach-roomy w l k r p s g room)
+  same = e ∙ ap reachReply (reach-roomy b s g (T-true (searchRoom b) room))
 
   pub reach-code : (n : ℕ) → n ≡ reachCode q → n ≡ reachCode (reachReply (targetFiles s g))
   reach-code n d = d ∙ ap reachCode same
@@ -50,9 +48,9 @@ module _ (w l k r p : ℕ) (s g : List ℕ) (hw : 337 ≤ w) (hl : 10784 ≤ l) 
       go (accepted f) low h = never (automatonOf (f .table)) (nearestTo (automatonOf (f .table)) (targetOf (f .target))) h
       go (refused m) low h = let z : m ≡ n = cc in low (ap refused z)
 
-module _ (w : ℕ) (s g : List ℕ) (hw : 10784 ≤ w) (q : Asking) (e : q ≡ askReply (askFiles w s g)) where
+module _ (b : AskBuffers) (s g : List ℕ) (room : 10784 ≤ length (b .rows)) (q : Asking) (e : q ≡ askReply (askFiles b s g)) where
   asked : q ≡ askReply (questionFiles s g)
-  asked = e ∙ ap askReply (ask-roomy w s g hw)
+  asked = e ∙ ap askReply (ask-roomy b s g room)
 
   pub ask-code : (n : ℕ) → n ≡ askCode q → n ≡ askCode (askReply (questionFiles s g))
   ask-code n d = d ∙ ap askCode asked

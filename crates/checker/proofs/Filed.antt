@@ -5,14 +5,14 @@ use mathlib.Core.List.{List}
 use mathlib.Core.Path.{_≡_, sym, ap, _∙_}
 use native.Mathlib.Omega.{arith}
 use borrow.Author.Tests.{le-leb, lt-leb}
-use lib.Dec.{T, leb}
+use lib.Dec.{T}
 use lib.ListN.{length}
 use Rattle.refusals.specs.declared.Refusal.{Refusal}
 use Rattle.refusals.specs.Judged.{Judged, refusal, _then_}
 use Rattle.refusals.specs.Judged.Judged.{accepted, refused}
 use Rattle.refusals.proofs.Composed.{passes, fails}
 use Rattle.automata.specs.WellFormed.{fitsQuestion}
-use Rattle.forms.specs.TableForm.{automatonOf}
+use Rattle.forms.specs.FormAutomaton.{automatonOf}
 use Rattle.forms.specs.QuestionForm.{rowsOf}
 use Rattle.questions.specs.Question.{Rows}
 use Rattle.questions.specs.QuestionReply.{replyOf, formOf}
@@ -21,7 +21,7 @@ use Rattle.questions.specs.declared.Reply.the-variants.{Accepted, Refused}
 use Rattle.questions.proofs.Fits.{question-form}
 use Rattle.questions.proofs.QuestionOutcomes.{accepted-rows}
 use Rattle.opening.specs.Opening.{openTable}
-use Rattle.checker.specs.Files.{WithQuestion, withQuestion, questionTo, questionFiles, askFiles}
+use Rattle.claims.specs.Files.{WithQuestion, withQuestion, questionTo, questionFiles, AskBuffers, rowsRoom, askFiles}
 
 -- rows of the form u, so many
 abbrev pub rows : List ℕ → ℕ → Rows
@@ -61,10 +61,11 @@ module _ (s q t : List ℕ) (e : openTable s ≡ accepted t) where
 pub question-table-refused : (s q : List ℕ) (n : Refusal) → openTable s ≡ refused n → questionFiles s q ≡ refused n
 question-table-refused s q n e = ap (λ o. o then question-after q) e
 
-pub ask-roomy : (w : ℕ) (s q : List ℕ) → 10784 ≤ w → askFiles w s q ≡ questionFiles s q
-unfolding askFiles
-ask-roomy w s q h = passes (refusal 9 0 0) (λ ok. questionFiles s q) (leb 10784 w) (le-leb 10784 w h)
+module _ (b : AskBuffers) (s q : List ℕ) where
+  pub ask-roomy : 10784 ≤ length (b .rows) → askFiles b s q ≡ questionFiles s q
+  unfolding askFiles
+  ask-roomy h = passes (refusal 9 0 0) (λ ok. questionFiles s q) (rowsRoom b) (le-leb 10784 (length (b .rows)) h)
 
-pub ask-cramped : (w : ℕ) (s q : List ℕ) → w < 10784 → askFiles w s q ≡ refused (refusal 9 0 0)
-unfolding askFiles
-ask-cramped w s q h = fails (refusal 9 0 0) (λ ok. questionFiles s q) (leb 10784 w) (lt-leb 10784 w h)
+  pub ask-cramped : length (b .rows) < 10784 → askFiles b s q ≡ refused (refusal 9 0 0)
+  unfolding askFiles
+  ask-cramped h = fails (refusal 9 0 0) (λ ok. questionFiles s q) (rowsRoom b) (lt-leb 10784 (length (b .rows)) h)

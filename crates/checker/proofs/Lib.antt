@@ -1,14 +1,10 @@
--- What the public calls promise in words of runs, and the lemmas of the functions' proofs.
+-- The lemmas of the functions' proofs: what the calls read, what was told them, and what they promise then.
 pub mod OpenedTable
-pub mod Replays
+pub mod OpenedValue
 pub mod Between
 pub mod Long
-pub mod Asked
 pub mod Filed
+pub mod Asked
 pub mod Targeted
 pub mod RefusalNumbers
 pub mod Codes
-pub mod Least
-pub mod Claims
-pub mod Meaning
-pub mod RowsTold

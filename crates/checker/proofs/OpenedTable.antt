@@ -6,7 +6,7 @@ use mathlib.Core.Path.{_≡_, refl, sym, ap, _∙_}
 use native.Mathlib.Omega.{arith}
 use lib.ListN.{length, replicate, length-replicate}
 use Rattle.automata.specs.Configurations.{classes}
-use Rattle.forms.specs.TableForm.{automatonOf}
+use Rattle.forms.specs.FormAutomaton.{automatonOf}
 use Rattle.refusals.specs.declared.Refusal.{Refusal}
 use Rattle.refusals.specs.Judged.{Judged}
 use Rattle.refusals.specs.Judged.Judged.{accepted, refused}
@@ -17,7 +17,8 @@ use Rattle.forms.specs.Readable.{Readable}
 use Rattle.catalogue.specs.Serving.{labelRows}
 use Rattle.catalogue.proofs.LabelRows.{label-rows-length}
 use Rattle.lists.proofs.Arrays.{written-length}
-use Rattle.opening.specs.Opening.{openTable, labelsOf, classLabels}
+use Rattle.opening.specs.Opening.{openTable}
+use Rattle.opening.specs.OpenedLabels.{labelsOf, classLabels}
 use Rattle.opening.proofs.Opened.{opened-readable}
 use Rattle.opening.proofs.LabelsWritten.{counts-few, labels-held}
 use Rattle.automata.specs.WellFormed.{constantCount}

@@ -12,7 +12,7 @@ use Rattle.refusals.specs.Judged.{Judged, refusal, _then_, require}
 use Rattle.refusals.specs.Judged.Judged.{accepted, refused}
 use Rattle.refusals.proofs.Composed.{then-refused}
 use Rattle.automata.specs.WellFormed.{constantCount}
-use Rattle.forms.specs.TableForm.{automatonOf}
+use Rattle.forms.specs.FormAutomaton.{automatonOf}
 use Rattle.reader.specs.Table.{readTable, readTarget}
 use Rattle.reader.specs.TableRules.{atStart}
 use Rattle.fields.proofs.LineFiles.{Numbered}
@@ -20,7 +20,7 @@ use Rattle.reader.proofs.TableOutcomes.{form-numbers}
 use Rattle.questions.proofs.QuestionOutcomes.{question-numbers}
 use Rattle.conditions.specs.Startable.{startable}
 use Rattle.opening.specs.Opening.{openTable, withStart}
-use Rattle.checker.specs.Files.{withTarget, withQuestion, questionTo, targetFiles, questionFiles}
+use Rattle.claims.specs.Files.{withTarget, withQuestion, questionTo, targetFiles, questionFiles}
 use Rattle.checker.proofs.Filed.{question-after}
 use Rattle.checker.proofs.Targeted.{target-after}
 

@@ -1,10 +1,2 @@
--- What the contracts of the public calls cite.
-pub mod Files
-pub mod Reachable
-pub mod Truth
-pub mod ReachReply
-pub mod AskReply
-pub mod Replaying
-pub mod StepReplies
-pub mod Demand
-pub mod Editor
+-- What contracts within the checker cite; the public calls cite crate claims.
+pub mod OpenedValue

@@ -1,15 +1,16 @@
 // The two functions for an editor written in C: bytes and lengths in, one number out, over memory of the checker's own.
 ghost use mathlib.Core.Path.{_≡_};
 ghost use Prim.Native.Nat.{_≤_};
+ghost use lib.Dec.{T};
 ghost use lib.ListN.{length};
-ghost use Rattle.checker.specs.Files.{targetFiles, questionFiles};
-ghost use Rattle.checker.specs.ReachReply.{reachReply};
-ghost use Rattle.checker.specs.AskReply.{askReply};
-ghost use Rattle.checker.specs.Editor.{reachCode, askCode};
-use crate::Asking;
-use crate::Reaching;
+ghost use Rattle.claims.specs.Files.{reachBuffers, searchRoom, targetFiles, questionFiles};
+ghost use Rattle.claims.specs.ReachReply.{reachReply};
+ghost use Rattle.claims.specs.AskReply.{askReply};
+ghost use Rattle.claims.specs.Editor.{reachCode, askCode, ReachCodeMeans, AskCodeMeans};
 use crate::goal::reach;
 use crate::question::ask;
+use claims::Asking;
+use claims::Reaching;
 
 // Whether runs of the table reach the target, over lent memory.
 fn reach_over(
@@ -21,7 +22,7 @@ fn reach_over(
     run: &mut [u32],
     lines: &mut [u32],
 ) -> u32
-    requires { ⌜ (337 ≤ length (now words)) × (10784 ≤ length (now least)) × (10784 ≤ length (now links)) × (97061 ≤ length (now run)) × (129420 ≤ length (now lines)) ⌝ }
+    requires { ⌜ T (searchRoom (reachBuffers (now words) (now least) (now links) (now run) (now lines))) ⌝ }
     ensures { λ r. ⌜ r ≡ reachCode (reachReply (targetFiles (now (table .entry)) (now (target .entry)))) ⌝ }
 {
     let reply = reach(table, target, words, least, links, run, lines);
@@ -55,7 +56,9 @@ fn ask_over(table: &[u8], question: &[u8], rows: &mut [u32]) -> u32
 // Table and target: 1 reached, 0 never, or 100 plus the refusal's number.
 #[no_mangle]
 pub extern "C" fn maceplateau_reach(table: &[u8], target: &[u8]) -> u32
-    ensures { λ r. ⌜ r ≡ reachCode (reachReply (targetFiles (now (table .entry)) (now (target .entry)))) ⌝ }
+    ensures { λ r.
+        ⌜ (r ≡ reachCode (reachReply (targetFiles (now (table .entry)) (now (target .entry)))))
+        × ReachCodeMeans (now (table .entry)) (now (target .entry)) r ⌝ }
 {
     let mut words = [0u32; 337];
     let mut least = [0u16; 10784];
@@ -76,7 +79,9 @@ pub extern "C" fn maceplateau_reach(table: &[u8], target: &[u8]) -> u32
 // Table and question: 1 yes, 0 no, or 100 plus the refusal's number.
 #[no_mangle]
 pub extern "C" fn maceplateau_ask(table: &[u8], question: &[u8]) -> u32
-    ensures { λ r. ⌜ r ≡ askCode (askReply (questionFiles (now (table .entry)) (now (question .entry)))) ⌝ }
+    ensures { λ r.
+        ⌜ (r ≡ askCode (askReply (questionFiles (now (table .entry)) (now (question .entry)))))
+        × AskCodeMeans (now (table .entry)) (now (question .entry)) r ⌝ }
 {
     let mut rows = [0u32; 10784];
     ask_over(table, question, &mut rows)

@@ -2,7 +2,7 @@
 ghost use mathlib.Core.Path.{_≡_};
 ghost use lib.ListN.{length};
 ghost use Rattle.automata.specs.Configurations.{classes};
-ghost use Rattle.forms.specs.TableForm.{automatonOf};
+ghost use Rattle.forms.specs.FormAutomaton.{automatonOf};
 ghost use Rattle.forms.specs.Readable.{Readable};
 
 // The number of a table's classes.

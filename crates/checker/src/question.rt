@@ -1,23 +1,28 @@
 // The call on a table and a question: its rows over all configurations, and whether it holds at every permitted start.
+ghost use mathlib.Core.List.{List};
+ghost use mathlib.Core.Option.{Option};
 ghost use mathlib.Core.Path.{_≡_};
-ghost use Prim.Native.Nat.{_≤_};
+ghost use Prim.Native.Nat.{ℕ, _≤_};
 ghost use lib.Dec.{T};
 ghost use lib.ListN.{length};
-ghost use Rattle.automata.specs.Questions.{question as asked, rowFormulas};
+ghost use Rattle.refusals.specs.Judged.{Judged};
+ghost use Rattle.automata.specs.Automaton.{Automaton};
+ghost use Rattle.automata.specs.Questions.{Row, question as asked, rowFormulas};
 ghost use Rattle.automata.specs.Configurations.{classes};
 ghost use Rattle.automata.specs.Answers.{failing};
 ghost use Rattle.automata.specs.WellFormed.{fitsQuestion};
-ghost use Rattle.forms.specs.TableForm.{automatonOf};
+ghost use Rattle.forms.specs.FormAutomaton.{automatonOf};
 ghost use Rattle.forms.specs.QuestionForm.{rowsOf};
 ghost use Rattle.forms.specs.Readable.{Readable};
 ghost use Rattle.questions.specs.QuestionReply.{replyOf, formOf};
 ghost use Rattle.forms.specs.ClassLabels.{Lent};
 ghost use Rattle.formulas.specs.Rows.{shown};
-ghost use Rattle.checker.specs.Files.{questionTo, askFiles};
-ghost use Rattle.checker.specs.AskReply.{askedReply, askedContents, askReply, askRows, askContents};
-ghost use Rattle.checker.specs.Demand.{AskMeans};
-use crate::Asking;
+ghost use Rattle.claims.specs.Files.{WithQuestion, questionTo, AskBuffers, askBuffers, askFiles};
+ghost use Rattle.claims.specs.AskReply.{askedReply, askedContents, askReply, askTold, askRows, askContents};
+ghost use Rattle.claims.specs.AnswerNumbers.{askNumbers};
+ghost use Rattle.claims.specs.Demand.{AskMeans};
 use crate::given::classes_in;
+use claims::Asking;
 use refusals::Refusal;
 
 // Asks a question of an opened table, over memory for its step rows.
@@ -30,8 +35,16 @@ fn answer_over(
     rows: &mut [u32],
     contents: &mut [u32; 5],
 ) -> Asking
-    requires { ⌜ (992128 ≤ length (now steps)) × Lent (now form) (now cat) (length (classes (automatonOf (now form)))) × (length (now question) ≡ 96) × (count ≤ 32) × T (fitsQuestion (automatonOf (now form)) (rowsOf (now question) count)) × (10784 ≤ length (now rows)) ⌝ }
-    ensures { λ r. ⌜ (r ≡ askedReply (automatonOf (now (form .entry))) (failing (automatonOf (now (form .entry))) (asked (rowsOf (now (question .entry)) count)))) × (now (rows .exit) ≡ shown (automatonOf (now (form .entry))) (rowFormulas (rowsOf (now (question .entry)) count)) (now (rows .entry))) × (now (contents .exit) ≡ askedContents (automatonOf (now (form .entry))) (failing (automatonOf (now (form .entry))) (asked (rowsOf (now (question .entry)) count))) (now (contents .entry))) ⌝ }
+    requires { let a : Automaton = automatonOf (now form) in
+        ⌜ (992128 ≤ length (now steps)) × Lent (now form) (now cat) (length (classes a)) × (length (now question) ≡ 96) × (count ≤ 32)
+        × T (fitsQuestion a (rowsOf (now question) count)) × (10784 ≤ length (now rows)) ⌝ }
+    ensures { λ r.
+        let a : Automaton = automatonOf (now (form .entry)) in
+        let rs : List Row = rowsOf (now (question .entry)) count in
+        let k : Option ℕ = failing a (asked rs) in
+        ⌜ (r ≡ askedReply a k)
+        × (now (rows .exit) ≡ shown a (rowFormulas rs) (now (rows .entry)))
+        × (now (contents .exit) ≡ askedContents a k (now (contents .entry))) ⌝ }
 {
     let n = classes_in(form);
     relation::fill(form, cat, n, steps);
@@ -57,8 +70,16 @@ fn answer(
     rows: &mut [u32],
     contents: &mut [u32; 5],
 ) -> Asking
-    requires { ⌜ Lent (now form) (now cat) (length (classes (automatonOf (now form)))) × (length (now question) ≡ 96) × (count ≤ 32) × T (fitsQuestion (automatonOf (now form)) (rowsOf (now question) count)) × (10784 ≤ length (now rows)) ⌝ }
-    ensures { λ r. ⌜ (r ≡ askedReply (automatonOf (now (form .entry))) (failing (automatonOf (now (form .entry))) (asked (rowsOf (now (question .entry)) count)))) × (now (rows .exit) ≡ shown (automatonOf (now (form .entry))) (rowFormulas (rowsOf (now (question .entry)) count)) (now (rows .entry))) × (now (contents .exit) ≡ askedContents (automatonOf (now (form .entry))) (failing (automatonOf (now (form .entry))) (asked (rowsOf (now (question .entry)) count))) (now (contents .entry))) ⌝ }
+    requires { let a : Automaton = automatonOf (now form) in
+        ⌜ Lent (now form) (now cat) (length (classes a)) × (length (now question) ≡ 96) × (count ≤ 32) × T (fitsQuestion a (rowsOf (now question) count))
+        × (10784 ≤ length (now rows)) ⌝ }
+    ensures { λ r.
+        let a : Automaton = automatonOf (now (form .entry)) in
+        let rs : List Row = rowsOf (now (question .entry)) count in
+        let k : Option ℕ = failing a (asked rs) in
+        ⌜ (r ≡ askedReply a k)
+        × (now (rows .exit) ≡ shown a (rowFormulas rs) (now (rows .entry)))
+        × (now (contents .exit) ≡ askedContents a k (now (contents .entry))) ⌝ }
 {
     let mut steps = [0u32; 992128];
     answer_over(&mut steps, form, cat, question, count, rows, contents)
@@ -67,7 +88,10 @@ fn answer(
 // Reads a question to an opened table; a refusal leaves the rows as they are.
 fn read_rows(form: &[u32], question: &[u8], rows: &mut [u32; 96]) -> questions::Reply
     requires { ⌜ Readable (now form) ⌝ }
-    ensures { λ r. ⌜ (r ≡ replyOf (questionTo (automatonOf (now (form .entry))) (now (question .entry)))) × (now (rows .exit) ≡ formOf (questionTo (automatonOf (now (form .entry))) (now (question .entry))) (now (rows .entry))) ⌝ }
+    ensures { λ r.
+        let a : Automaton = automatonOf (now (form .entry)) in
+        ⌜ (r ≡ replyOf (questionTo a (now (question .entry))))
+        × (now (rows .exit) ≡ formOf (questionTo a (now (question .entry))) (now (rows .entry))) ⌝ }
 {
     let registers = forms::registers(form) as u32;
     let constants = forms::constants(form) as u32;
@@ -77,7 +101,15 @@ fn read_rows(form: &[u32], question: &[u8], rows: &mut [u32; 96]) -> questions::
 
 // Whether a question holds at every permitted start of a table. Refusals write nothing.
 pub fn ask(table: &[u8], question: &[u8], rows: &mut [u32], contents: &mut [u32; 5]) -> Asking
-    ensures { λ r. ⌜ (r ≡ askReply (askFiles (length (now (rows .entry))) (now (table .entry)) (now (question .entry)))) × (now (rows .exit) ≡ askRows (askFiles (length (now (rows .entry))) (now (table .entry)) (now (question .entry))) (now (rows .entry))) × (now (contents .exit) ≡ askContents (askFiles (length (now (rows .entry))) (now (table .entry)) (now (question .entry))) (now (contents .entry))) × AskMeans (askFiles (length (now (rows .entry))) (now (table .entry)) (now (question .entry))) r (now (rows .exit)) (now (contents .exit)) ⌝ }
+    ensures { λ r.
+        let before : AskBuffers = askBuffers (now (rows .entry)) (now (contents .entry)) in
+        let after : AskBuffers = askBuffers (now (rows .exit)) (now (contents .exit)) in
+        let f : Judged WithQuestion = askFiles before (now (table .entry)) (now (question .entry)) in
+        ⌜ (r ≡ askReply f)
+        × (askNumbers r (after .contents) ≡ askTold f)
+        × (after .rows ≡ askRows f (before .rows))
+        × (after .contents ≡ askContents f (before .contents))
+        × AskMeans (now (table .entry)) (now (question .entry)) r before after ⌝ }
 {
     if rows.len() < 10784 {
         return Asking::Refused(Refusal {

@@ -1,10 +1,13 @@
 // Replaying a run of a table: its length, the table's refusals, and then the verdict.
 ghost use mathlib.Core.Path.{_≡_};
 ghost use lib.ListN.{length};
+ghost use Rattle.refusals.specs.Judged.{told};
 ghost use Rattle.opening.specs.Opening.{openTable};
-ghost use Rattle.checker.specs.Replaying.{wholeLength, replied, replayReply, replayStepsReply, openedOf, openedRefusal};
+ghost use Rattle.claims.specs.Replaying.{wholeLength, replied, replayOf, replayReply, replayStepsOf, replayStepsReply, verdictNumbers, ReplayMeans, ReplayStepsMean};
+ghost use Rattle.claims.specs.AnswerNumbers.{replayedNumbers};
+ghost use Rattle.checker.specs.OpenedValue.{openedOf, openedRefusal};
 use crate::Opened;
-use crate::Replayed;
+use claims::Replayed;
 use forms::Form;
 use reader::Reply;
 use refusals::Refusal;
@@ -32,7 +35,10 @@ fn reply_of(verdict: Verdict) -> Replayed
 
 // Judges a run in the flat form: five start contents, then nine numbers for each step.
 pub fn replay(table: &[u8], run: &[u32]) -> Replayed
-    ensures { λ r. ⌜ r ≡ replayReply (now (table .entry)) (now (run .entry)) ⌝ }
+    ensures { λ r.
+        ⌜ (r ≡ replayReply (now (table .entry)) (now (run .entry)))
+        × (replayedNumbers r ≡ told verdictNumbers (replayOf (now (table .entry)) (now (run .entry))))
+        × ReplayMeans (now (table .entry)) (now (run .entry)) r ⌝ }
 {
     if !whole(run.len()) {
         return Replayed::Refused(Refusal {
@@ -95,7 +101,10 @@ fn refusal_of(o: Opened) -> Replayed
 
 // Judges a run that is lent as steps.
 pub fn replay_steps(table: &[u8], start: [u32; 5], steps: &[Step]) -> Replayed
-    ensures { λ r. ⌜ r ≡ replayStepsReply (now (table .entry)) start (now (steps .entry)) ⌝ }
+    ensures { λ r.
+        ⌜ (r ≡ replayStepsReply (now (table .entry)) start (now (steps .entry)))
+        × (replayedNumbers r ≡ told verdictNumbers (replayStepsOf (now (table .entry)) start (now (steps .entry))))
+        × ReplayStepsMean (now (table .entry)) start (now (steps .entry)) r ⌝ }
 {
     let opened = opening(table);
     if is_refused(opened) {

@@ -11,7 +11,8 @@ use lib.ListN.{length, getD}
 use Rattle.graphs.specs.Lists.{upFrom, eqList, allOf, Dictionary}
 use Rattle.graphs.proofs.Dictionary.{dictionary-irreflexive}
 use Rattle.graphs.proofs.Lists.{T-ext, allOf-mem, eqList→eq, eqList-refl, getD-mem, mem-flatMap, flatMap-mem, mem-upFrom, upFrom-mem}
-use Rattle.classes.specs.Classes.{lists, index, Legal, Ascending}
+use Rattle.classes.specs.Classes.{lists, index}
+use Rattle.classes.specs.Contents.{Legal, Ascending}
 
 pub mem-lists : (b : ℕ) (k : List ℕ) → Legal b k → List·Memᴰ k (lists (length k) b)
 mem-lists b [] l = List·Memᴰ·head refl

@@ -10,7 +10,8 @@ use lib.ListN.{length, getD, List·getD-append}
 use lib.Seq.{getD-append-seam}
 use Rattle.graphs.specs.Lists.{item}
 use Rattle.classes.specs.Renaming.{Absent, Distinct}
-use Rattle.classes.specs.Classes.{position, noted, Legal, fresh, identifier, identifiers, contents, Unused, GivenBack}
+use Rattle.classes.specs.Classes.{position, noted, Unused, GivenBack}
+use Rattle.classes.specs.Contents.{Legal, fresh, identifier, identifiers, contents}
 use Rattle.classes.proofs.Labels.{position-cons-other, position-absent, noted-old, noted-new}
 use Rattle.classes.proofs.Legal.{noted-length}
 use Rattle.classes.proofs.Fresh.{fresh-absent, fresh-least}
@@ -51,7 +52,8 @@ item-given seen x distinct low high =
     (λ h. rw (noted-old seen d (omega arith)) (sym (identifier-old seen x h)))
     (λ h. let e : pred x ≡ length seen = omega arith in rw (noted-new seen d (omega arith)) (ap (λ n. getD (seen ++ (d ∷ [])) n 0) e ∙ getD-append-seam seen d [] 0))
 
-legal-low : (b : ℕ) (k : List ℕ) (i : ℕ) → Legal b k → i < length k → 1 ≤ getD k i 0
+-- a legal list's labels are at least 1
+pub legal-low : (b : ℕ) (k : List ℕ) (i : ℕ) → Legal b k → i < length k → 1 ≤ getD k i 0
 legal-low b [] i l h = absurd (omega arith)
 legal-low b (x ∷ xs) zero (low, high, rest) h = low
 legal-low b (x ∷ xs) (suc i) (low, high, rest) h = legal-low (max b x) xs i rest (omega arith)

@@ -11,10 +11,11 @@ use lib.ListN.{length, getD}
 use Rattle.graphs.specs.Lists.{item, AtMost}
 use Rattle.graphs.proofs.Lists.{getD-mem}
 use Rattle.classes.specs.Renaming.{Renaming, rename, Absent, Distinct}
-use Rattle.classes.specs.Classes.{position, noted, labels, notes, Legal}
+use Rattle.classes.specs.Classes.{position, noted, labels}
+use Rattle.classes.specs.Contents.{notes, Legal}
 use Rattle.classes.proofs.Labels.{position-cons-same, position-cons-other, position-le, position-found, position-absent, noted-old, noted-new, noted-renamed}
 use Rattle.classes.proofs.Legal.{noted-length}
-use Rattle.classes.specs.Classes.{fresh, identifier, identifiers}
+use Rattle.classes.specs.Contents.{fresh, identifier, identifiers}
 use Rattle.graphs.proofs.Dictionary.{atMost-cons}
 use Rattle.classes.proofs.Fresh.{fresh-absent, fresh-le, fresh-least}
 

@@ -15,8 +15,10 @@ use lib.ListN.{length, getD, length-map}
 use Rattle.graphs.specs.Lists.{upFrom, eqList, table}
 use Rattle.graphs.proofs.Lists.{eqList→eq, eqList-refl, table-getD, First, first-is}
 use Rattle.classes.specs.Renaming.{Renaming, rename, SameClass, Distinct}
-use Rattle.classes.specs.Classes.{position, noted, labels, lists, Legal}
-use Rattle.classes.specs.Matrix.{cell, matrix, classMatrix, classOfMatrix, ClassAnswer}
+use Rattle.classes.specs.Classes.{position, noted, labels, lists}
+use Rattle.classes.specs.Contents.{Legal}
+use Rattle.classes.specs.Matrix.{cell, matrix, classMatrix}
+use Rattle.classes.specs.MatrixClasses.{classOfMatrix, ClassAnswer}
 use Rattle.classes.proofs.Renamings.{eqb-renamed}
 use Rattle.classes.proofs.Labels.{position-cons-same, position-cons-other, position-le, position-renamed, noted-old, noted-new, same-class, labels-class}
 use Rattle.classes.proofs.Legal.{noted-length, labels-length, labels-legal, legal-labels, to-labels, from-labels}
@@ -46,7 +48,7 @@ matrix-labels cs v d = let (π, c, r) = to-labels cs v d in cc (matrix-renamed �
 -- What an entry says
 
 module _ (cs : List ℕ) where
-  cell-other : (x y : ℕ) → x ≢ y → cell cs x y ≡ 0
+  pub cell-other : (x y : ℕ) → x ≢ y → cell cs x y ≡ 0
   cell-other x y n = rw (ne-eqb x y n)
 
   cell-old : (x y : ℕ) → x ≡ y → position cs x < length cs → cell cs x y ≡ suc (suc (position cs x))

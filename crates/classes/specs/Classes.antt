@@ -1,14 +1,15 @@
--- A class of valuations as a list of labels: a constant's number, or the number of constants plus the block's number (source 001, section 3).
+-- A class of valuations as a list of labels: a constant's number, or the number of constants plus the block's number (source 001, section 3); and the contents
+-- given back for it.
 -- Assumes nothing.
 use Prim.Native.Nat.{ℕ, zero, suc, _≤_, _<_, max}
 use mathlib.Core.Bool.{cond}
-use mathlib.Core.List.{List, [], _∷_, _++_, map, List·Memᴰ, flatMap}
+use mathlib.Core.List.{List, [], _∷_, _++_, map, flatMap}
 use mathlib.Core.Logic.{_≢_}
 use mathlib.Core.Path.{_≡_}
-use lib.Dec.{eqb, leb, ltb}
+use lib.Dec.{eqb, ltb}
 use lib.ListN.{length, getD}
-use Rattle.graphs.specs.Lists.{item, upFrom, eqList, Dictionary}
-use Rattle.classes.specs.Renaming.{SameClass, Absent}
+use Rattle.graphs.specs.Lists.{item, upFrom, eqList}
+use Rattle.classes.specs.Renaming.{Absent}
 
 -- the position of d in xs, counted from 0; length xs where it is not there
 abbrev pub position : List ℕ → ℕ → ℕ
@@ -24,21 +25,6 @@ abbrev pub labels : List ℕ → List ℕ → List ℕ
 labels seen [] = []
 labels seen (d ∷ ds) = suc (position seen d) ∷ labels (noted seen d) ds
 
--- the identifiers that have a label, once all of ds have one
-abbrev pub notes : List ℕ → List ℕ → List ℕ
-notes seen [] = seen
-notes seen (d ∷ ds) = notes (noted seen d) ds
-
--- each label is at least 1, and at most one more than the bound and the labels before it
-abbrev pub Legal : ℕ → List ℕ → Type 0
-Legal b [] = Unit {0}
-Legal b (x ∷ xs) = (1 ≤ x) × (x ≤ suc b) × Legal (max b x) xs
-
--- the largest label, b at least
-abbrev pub bound : ℕ → List ℕ → ℕ
-bound b [] = b
-bound b (x ∷ xs) = bound (max b x) xs
-
 -- all legal lists of n labels over b constants, in dictionary order
 abbrev pub lists : ℕ → ℕ → List (List ℕ)
 lists zero b = [] ∷ []
@@ -48,33 +34,6 @@ lists (suc n) b = flatMap (λ x. map (λ l. x ∷ l) (lists n (max b x))) (upFro
 abbrev pub index : List (List ℕ) → List ℕ → ℕ
 index [] k = 0
 index (l ∷ ls) k = cond (eqList l k) 0 (suc (index ls k))
-
--- each list stands before all that follow it, in dictionary order
-abbrev pub Ascending : List (List ℕ) → Type 0
-Ascending [] = Unit {0}
-Ascending (k ∷ ks) = ((l : List ℕ) → List·Memᴰ l ks → Dictionary k l) × Ascending ks
-
--- the smallest of i, .. , i + n - 1 that is not in seen, and i + n where all are in it
-abbrev pub freshFrom : List ℕ → ℕ → ℕ → ℕ
-freshFrom seen i zero = i
-freshFrom seen i (suc n) = cond (ltb (position seen i) (length seen)) (freshFrom seen (suc i) n) i
-
--- the smallest identifier that is not in seen
-abbrev pub fresh : List ℕ → ℕ
-fresh seen = freshFrom seen 0 (length seen)
-
--- the identifier of a label: the one that has it, or else the smallest that has none
-abbrev pub identifier : List ℕ → ℕ → ℕ
-identifier seen x = cond (leb x (length seen)) (item seen x) (fresh seen)
-
--- the smallest identifiers with these labels, given the identifiers that have a label already, in label order from 1
-abbrev pub identifiers : List ℕ → List ℕ → List ℕ
-identifiers seen [] = []
-identifiers seen (x ∷ xs) = identifier seen x ∷ identifiers (noted seen (identifier seen x)) xs
-
--- the contents given back for a class: constants by their labels, and block by block the smallest identifier that is no constant and not yet used
-abbrev pub contents : List ℕ → List ℕ → List ℕ
-contents cs k = identifiers cs k
 
 -- d is no constant, and none of the first i registers of v holds it
 abbrev pub Unused : List ℕ → List ℕ → ℕ → ℕ → Type 0
@@ -88,11 +47,3 @@ pub record GivenBack (cs k v : List ℕ) : Type 0 where
   pub blocks : (i j : ℕ) → i < j → j < length k → getD k i 0 ≡ getD k j 0 → getD v i 0 ≡ getD v j 0
   pub smallest : (i : ℕ) → i < length k → length cs < getD k i 0 → ((j : ℕ) → j < i → getD k j 0 ≢ getD k i 0)
       → Unused cs v i (getD v i 0) × ((d : ℕ) → Unused cs v i d → getD v i 0 ≤ d)
-
--- so many valuations of n registers, one from each class
-pub record Representatives (cs : List ℕ) (n total : ℕ) : Type 0 where
-  pub valuations : List (List ℕ)
-  pub count : length valuations ≡ total
-  pub width : (v : List ℕ) → List·Memᴰ v valuations → length v ≡ n
-  pub covers : (v : List ℕ) → length v ≡ n → (u : List ℕ) × List·Memᴰ u valuations × SameClass cs u v
-  pub apart : (i j : ℕ) → i < j → j < length valuations → SameClass cs (getD valuations i []) (getD valuations j []) → ⊥

@@ -1,30 +1,30 @@
--- What the tests of the calls say, one after another; what a call replies by them; and lists in small arrays.
+-- What the tests of the calls say, one after another; what a call promises by them; and lists in small arrays.
 -- Assumes nothing.
 use Prim.Native.Nat.{ℕ, _≤_, _<_}
-use mathlib.Core.Bool.{Bool, true, false, _&&_}
+use mathlib.Core.Bool.{Bool, true, false, _&&_, and-eq-true-iff}
 use mathlib.Core.List.{List, [], _∷_}
-use mathlib.Core.Path.{_≡_, refl, sym, ap, _∙_}
+use mathlib.Core.Option.{Option}
+use mathlib.Core.Path.{_≡_, refl, sym, ap, ap₂, _∙_, subst, subst⁻¹}
 use native.Mathlib.Omega.{arith}
-use borrow.Author.Tests.{leb-true, le-leb, lt-leb, lt-ltb, le-ltb}
-use lib.Dec.{leb, ltb}
+use borrow.Author.Tests.{leb-true, le-leb, lt-leb}
+use lib.Dec.{T, leb, ltb}
 use lib.ListN.{length, getD, take}
 use Rattle.refusals.specs.declared.Refusal.{Refusal}
-use Rattle.refusals.specs.Judged.{Judged, refusal, _then_, require}
+use Rattle.refusals.specs.Judged.{Judged, refusal, _then_, require, told}
 use Rattle.refusals.specs.Judged.Judged.{accepted, refused}
 use Rattle.refusals.proofs.Composed.{then-accepted, required, passes, fails}
+use Rattle.graphs.proofs.Lists.{T-true}
 use Rattle.classes.specs.Renaming.{rising}
-use Rattle.lists.specs.Arrays.{written}
-use Rattle.classification.specs.ClassTests.{testCounts, testLists, testRange, numberOf, doneOf, writtenOf}
-use Rattle.classification.specs.declared.Number.the-variants.{Refused as noNumber, Is}
+use Rattle.classification.specs.ClassTests.{testCounts, testLists, testRange, classFound, numberOf, doneOf, writtenOf, numbersOf, writtenNumbers}
+use Rattle.classification.specs.ClassClaims.{FitCounts, FitConstants}
+use Rattle.classification.specs.declared.Number.{Number}
 use Rattle.classification.specs.declared.Written.{Written}
 use Rattle.classification.specs.declared.Written.the-variants.{Refused as notWritten, Done}
 
 -- A test of two parts
 
 pub both : (p q : Bool) → (p && q) ≡ true → (p ≡ true) × (q ≡ true)
-both true true e = (refl, refl)
-both true false e = let z : _≡_ {A = ℕ} 0 1 = cc in absurd (omega arith)
-both false q e = let z : _≡_ {A = ℕ} 0 1 = cc in absurd (omega arith)
+both p q = and-eq-true-iff p q .0
 
 -- What tests that were told to be done or refused say of what follows them
 
@@ -44,21 +44,37 @@ told-done (refused r) q e d = let z : _≡_ {A = ℕ} 0 1 = cc in absurd (omega 
 pub told-next : {B : Type 0} (j : Judged (Unit {0})) (next : Unit {0} → Judged B) (q : Written) → q ≡ doneOf j → q ≡ Done → (j then next) ≡ next tt
 told-next j next q e d = ap (λ x. x then next) (told-done j q e d)
 
--- Replies
+-- Replies in document 01's numbers
 
-pub number-refused : (j : Judged ℕ) (r : Refusal) → j ≡ refused r → noNumber r ≡ numberOf j
-number-refused j r e = sym (ap numberOf e)
+numbers-told : (j : Judged ℕ) → numbersOf (numberOf j) ≡ told (λ n. n ∷ []) j
+numbers-told (accepted n) = refl
+numbers-told (refused r) = refl
 
-pub number-is : (j : Judged ℕ) (n m : ℕ) → j ≡ accepted m → n ≡ m → Is n ≡ numberOf j
-number-is j n m e d = ap Is d ∙ sym (ap numberOf e)
+pub written-told : {A : Type 0} (j : Judged A) → writtenNumbers (doneOf j) ≡ told (λ x. []) j
+written-told (accepted x) = refl
+written-told (refused r) = refl
 
-pub write-refused : (j : Judged (List ℕ)) (r : Refusal) (entry : List ℕ) → j ≡ refused r → (notWritten r ≡ doneOf j) × (entry ≡ writtenOf j entry)
-write-refused j r entry e = (sym (ap doneOf e), sym (ap (λ x. writtenOf x entry) e))
+-- The whole promise, from what the definition gives and a claim that holds of it
 
-pub write-done : (j : Judged (List ℕ)) (xs ys entry exit : List ℕ) → j ≡ accepted ys → xs ≡ ys → exit ≡ written xs entry → (Done ≡ doneOf j) × (exit ≡ writtenOf j entry)
-write-done j xs ys entry exit e d f = (sym (ap doneOf e), f ∙ ap (λ x. written x entry) d ∙ sym (ap (λ x. writtenOf x entry) e))
+abbrev pub NumberPromise : (Number → Type 0) → Judged ℕ → Number → Type 0
+NumberPromise P j q = (q ≡ numberOf j) × (numbersOf q ≡ told (λ n. n ∷ []) j) × P q
+
+pub number-promised : (P : Number → Type 0) (j : Judged ℕ) → P (numberOf j) → (i : Judged ℕ) → j ≡ i → NumberPromise P j (numberOf i)
+number-promised P j p i e = subst (λ i. NumberPromise P j (numberOf i)) e (refl, numbers-told j, p)
+
+abbrev pub WrittenPromise : (Written → List ℕ → Type 0) → Judged (List ℕ) → (before : List ℕ) → Written → (after : List ℕ) → Type 0
+WrittenPromise P j before q after = (q ≡ doneOf j) × (writtenNumbers q ≡ told (λ xs. []) j) × (after ≡ writtenOf j before) × P q after
+
+pub written-promised : (P : Written → List ℕ → Type 0) (j : Judged (List ℕ)) (before : List ℕ) → P (doneOf j) (writtenOf j before)
+    → (i : Judged (List ℕ)) (after : List ℕ) → j ≡ i → after ≡ writtenOf i before → WrittenPromise P j before (doneOf i) after
+written-promised P j before p i after e f =
+    subst⁻¹ (WrittenPromise P j before (doneOf i)) f (subst (λ i. WrittenPromise P j before (doneOf i) (writtenOf i before)) e (refl, written-told j, refl, p))
 
 -- The tests of the code, in its order
+
+passed : (n : Refusal) (b : Bool) → require b n ≡ accepted tt → b ≡ true
+passed n true h = refl
+passed n false h = let z : _≡_ {A = ℕ} 0 1 = cc in absurd (omega arith)
 
 module _ (r c : ℕ) where
   abbrev few : Bool
@@ -80,36 +96,39 @@ module _ (r c : ℕ) where
   counts-taken b e h k = sym (ap doneOf (fitting b e) ∙ rw (le-leb r 5 h, le-leb c 2 k) refl)
 
   -- lengths and counts that are taken
-  pub counts-pass : (b : Bool) → testCounts b r c ≡ accepted tt → (b ≡ true) × (r ≤ 5) × (c ≤ 2)
+  pub counts-fit : (b : Bool) → b ≡ true → FitCounts r c → testCounts b r c ≡ accepted tt
+  counts-fit b e (h, k) = told-done _ Done (counts-taken b e h k) refl
+
+  pub counts-pass : (b : Bool) → testCounts b r c ≡ accepted tt → (b ≡ true) × FitCounts r c
   counts-pass b e =
       let (f, g) = required (refusal 9 0 0) (λ ok. require few (refusal 3 0 0)) b tt e in
-      let (x, y) = both (leb r 5) (leb c 2) (go few g) in
-      (f, leb-true r 5 x, leb-true c 2 y)
-    where
-      go : (b : Bool) → require b (refusal 3 0 0) ≡ accepted tt → b ≡ true
-      go true h = refl
-      go false h = let z : _≡_ {A = ℕ} 0 1 = cc in absurd (omega arith)
+      let (x, y) = both (leb r 5) (leb c 2) (passed (refusal 3 0 0) few g) in
+      (f, (leb-true r 5 x, leb-true c 2 y))
 
 module _ (b : Bool) (r : ℕ) (cs : List ℕ) where
   pub counts-refused : (q : Written) (n : Refusal) → q ≡ doneOf (testCounts b r (length cs)) → q ≡ notWritten n → notWritten n ≡ doneOf (testLists b r cs)
   counts-refused q n e d = sym (ap doneOf (told-refused (testCounts b r (length cs)) (λ ok. require (rising cs) (refusal 4 0 0)) q e n d))
 
-  pub order-taken : (q : Written) → q ≡ doneOf (testCounts b r (length cs)) → q ≡ Done → rising cs ≡ true → Done ≡ doneOf (testLists b r cs)
-  order-taken q e d h = sym (ap doneOf (told-next (testCounts b r (length cs)) (λ ok. require (rising cs) (refusal 4 0 0)) q e d) ∙ ap (λ x. doneOf (require x (refusal 4 0 0))) h)
+  pub order-told : (q : Written) → q ≡ doneOf (testCounts b r (length cs)) → q ≡ Done → (up : Bool) → rising cs ≡ up → doneOf (require up (refusal 4 0 0)) ≡ doneOf (testLists b r cs)
+  order-told q e d up h = sym (ap doneOf (told-next (testCounts b r (length cs)) (λ ok. require (rising cs) (refusal 4 0 0)) q e d) ∙ ap (λ x. doneOf (require x (refusal 4 0 0))) h)
 
-  pub order-refused : (q : Written) → q ≡ doneOf (testCounts b r (length cs)) → q ≡ Done → rising cs ≡ false → notWritten (refusal 4 0 0) ≡ doneOf (testLists b r cs)
-  order-refused q e d h = sym (ap doneOf (told-next (testCounts b r (length cs)) (λ ok. require (rising cs) (refusal 4 0 0)) q e d) ∙ ap (λ x. doneOf (require x (refusal 4 0 0))) h)
+  pub lists-pass : testLists b r cs ≡ accepted tt → (b ≡ true) × FitConstants r cs
+  lists-pass e =
+      let (x, f, g) = then-accepted (testCounts b r (length cs)) (λ ok. require (rising cs) (refusal 4 0 0)) tt e in
+      let (p, few) = counts-pass r (length cs) b f in
+      (p, (few, subst⁻¹ T (passed (refusal 4 0 0) (rising cs) g) tt))
 
-  pub lists-pass : testLists b r cs ≡ accepted tt → (b ≡ true) × (r ≤ 5) × (length cs ≤ 2)
-  lists-pass e = let (x, f, g) = then-accepted (testCounts b r (length cs)) (λ ok. require (rising cs) (refusal 4 0 0)) tt e in counts-pass r (length cs) b f
+  pub lists-fit : b ≡ true → FitConstants r cs → testLists b r cs ≡ accepted tt
+  lists-fit e (few, t) = told-done _ Done (order-told Done (sym (ap doneOf (counts-fit r (length cs) b e few))) refl true (T-true (rising cs) t)) refl
 
--- a number in range, and one that is not
-module _ {B : Type 0} (i n : ℕ) (next : Unit {0} → Judged B) where
-  pub in-range : i < n → (testRange i n then next) ≡ next tt
-  in-range h = passes (refusal 5 0 0) next (ltb i n) (lt-ltb i n h)
+-- What follows tests that pass: a number in range or not, a class that is found or not
 
-  pub out-of-range : n ≤ i → (testRange i n then next) ≡ refused (refusal 5 0 0)
-  out-of-range h = fails (refusal 5 0 0) next (ltb i n) (le-ltb i n h)
+module _ {B : Type 0} (t : Judged (Unit {0})) (pass : t ≡ accepted tt) where
+  pub ranged-is : (k n : ℕ) (y : B) (b : Bool) → ltb k n ≡ b → (t then (λ ok. testRange k n then (λ inside. accepted y))) ≡ (require b (refusal 5 0 0) then (λ inside. accepted y))
+  ranged-is k n y b e = ap₂ (λ x b. x then (λ ok. require b (refusal 5 0 0) then (λ inside. accepted y))) pass e
+
+  pub searched-is : (f : List ℕ → B) (o p : Option (List ℕ)) → o ≡ p → (t then (λ ok. classFound o then (λ l. accepted (f l)))) ≡ (classFound p then (λ l. accepted (f l)))
+  searched-is f o p e = ap₂ (λ x y. x then (λ ok. classFound y then (λ l. accepted (f l)))) pass e
 
 -- Constants
 

@@ -1,12 +1,13 @@
 // Contents, classes and matrices alone: the calls that need no table. None asks anything of its caller.
 ghost use mathlib.Core.Path.{_≡_};
-ghost use Prim.Native.Nat.{_*_, _≤_, _<_};
-ghost use lib.ListN.{length, getD, take};
-ghost use Rattle.refusals.specs.Judged.{refusal};
+ghost use mathlib.Core.List.{List, [], _∷_};
+ghost use Prim.Native.Nat.{ℕ, _*_, _≤_, _<_};
+ghost use lib.ListN.{length, take};
+ghost use Rattle.refusals.specs.Judged.{Judged, refusal, told};
 ghost use Rattle.classes.specs.Classes.{lists};
 ghost use Rattle.classes.specs.Renaming.{rising};
 ghost use Rattle.lists.specs.Arrays.{padded, written};
-ghost use Rattle.classification.specs.ClassTests.{testCounts, testLists, numberOf, doneOf, writtenOf};
+ghost use Rattle.classification.specs.ClassTests.{testCounts, testLists, numberOf, numbersOf, doneOf, writtenNumbers, writtenOf};
 ghost use Rattle.classification.specs.ClassCalls.{
   listOf,
   classCountFor,
@@ -16,6 +17,15 @@ ghost use Rattle.classification.specs.ClassCalls.{
   matrixContentsFor,
   classMatrixFor,
   matrixClassFor,
+};
+ghost use Rattle.classification.specs.ClassClaims.{
+  CountMeans,
+  ClassMeans,
+  ContentsMean,
+  MatrixMeans,
+  ClassMatrixMeans,
+  MatrixClassMeans,
+  MatrixContentsMean,
 };
 use refusals::Refusal;
 
@@ -125,11 +135,7 @@ fn put(list: [u32; 5], n: usize, out: &mut [u32])
     requires { ⌜ (n ≤ 5) × (n ≤ length (now out)) ⌝ }
     ensures { λ r. ⌜ now (out .exit) ≡ written (take n list) (now (out .entry)) ⌝ }
 {
-    let mut i = 0;
-    while i < n {
-        out[i] = list[i];
-        i += 1;
-    }
+    lists::put(out, 0, &list[..n]);
 }
 
 // The list of a class; zeros after it.
@@ -145,7 +151,11 @@ fn class_list(r: usize, c: usize, class: usize) -> [u8; 5]
 
 // The number of classes.
 pub fn class_count(registers: u32, constants: u32) -> Number
-    ensures { λ r. ⌜ r ≡ numberOf (classCountFor registers constants) ⌝ }
+    ensures { λ r.
+        let j : Judged ℕ = classCountFor registers constants in
+        ⌜ (r ≡ numberOf j)
+        × (numbersOf r ≡ told (λ n. n ∷ []) j)
+        × CountMeans registers constants r ⌝ }
 {
     let tests = test_counts(true, registers, constants as usize);
     match tests {
@@ -156,7 +166,13 @@ pub fn class_count(registers: u32, constants: u32) -> Number
 
 // The class number of contents.
 pub fn class_of(registers: u32, constants: &[u32], contents: &[u32]) -> Number
-    ensures { λ r. ⌜ r ≡ numberOf (classFor registers (now (constants .entry)) (now (contents .entry))) ⌝ }
+    ensures { λ r.
+        let cs : List ℕ = now (constants .entry) in
+        let v : List ℕ = now (contents .entry) in
+        let j : Judged ℕ = classFor registers cs v in
+        ⌜ (r ≡ numberOf j)
+        × (numbersOf r ≡ told (λ n. n ∷ []) j)
+        × ClassMeans registers cs v r ⌝ }
 {
     let fits = contents.len() == registers as usize;
     let tests = test_lists(fits, registers, constants);
@@ -172,7 +188,15 @@ pub fn class_of(registers: u32, constants: &[u32], contents: &[u32]) -> Number
 
 // The contents given back for a class.
 pub fn contents_of(registers: u32, constants: &[u32], class: usize, out: &mut [u32]) -> Written
-    ensures { λ r. ⌜ (r ≡ doneOf (contentsFor registers (now (constants .entry)) class (now (out .entry)))) × (now (out .exit) ≡ writtenOf (contentsFor registers (now (constants .entry)) class (now (out .entry))) (now (out .entry))) ⌝ }
+    ensures { λ r.
+        let cs : List ℕ = now (constants .entry) in
+        let before : List ℕ = now (out .entry) in
+        let after : List ℕ = now (out .exit) in
+        let j : Judged (List ℕ) = contentsFor registers cs class before in
+        ⌜ (r ≡ doneOf j)
+        × (writtenNumbers r ≡ told (λ xs. []) j)
+        × (after ≡ writtenOf j before)
+        × ContentsMean registers cs class r before after ⌝ }
 {
     let r = registers as usize;
     let fits = r <= out.len();
@@ -196,7 +220,16 @@ pub fn contents_of(registers: u32, constants: &[u32], class: usize, out: &mut [u
 
 // The matrix of contents.
 pub fn matrix_of(registers: u32, constants: &[u32], contents: &[u32], out: &mut [u8]) -> Written
-    ensures { λ r. ⌜ (r ≡ doneOf (matrixFor registers (now (constants .entry)) (now (contents .entry)) (now (out .entry)))) × (now (out .exit) ≡ writtenOf (matrixFor registers (now (constants .entry)) (now (contents .entry)) (now (out .entry))) (now (out .entry))) ⌝ }
+    ensures { λ r.
+        let cs : List ℕ = now (constants .entry) in
+        let v : List ℕ = now (contents .entry) in
+        let before : List ℕ = now (out .entry) in
+        let after : List ℕ = now (out .exit) in
+        let j : Judged (List ℕ) = matrixFor registers cs v before in
+        ⌜ (r ≡ doneOf j)
+        × (writtenNumbers r ≡ told (λ xs. []) j)
+        × (after ≡ writtenOf j before)
+        × MatrixMeans registers cs v r before after ⌝ }
 {
     let fits = (contents.len() == registers as usize) & (square(registers) <= out.len());
     let tests = test_lists(fits, registers, constants);
@@ -213,7 +246,14 @@ pub fn matrix_of(registers: u32, constants: &[u32], contents: &[u32], out: &mut 
 
 // The matrix of a class.
 pub fn matrix_of_class(registers: u32, constants: u32, class: usize, out: &mut [u8]) -> Written
-    ensures { λ r. ⌜ (r ≡ doneOf (classMatrixFor registers constants class (now (out .entry)))) × (now (out .exit) ≡ writtenOf (classMatrixFor registers constants class (now (out .entry))) (now (out .entry))) ⌝ }
+    ensures { λ r.
+        let before : List ℕ = now (out .entry) in
+        let after : List ℕ = now (out .exit) in
+        let j : Judged (List ℕ) = classMatrixFor registers constants class before in
+        ⌜ (r ≡ doneOf j)
+        × (writtenNumbers r ≡ told (λ xs. []) j)
+        × (after ≡ writtenOf j before)
+        × ClassMatrixMeans registers constants class r before after ⌝ }
 {
     let c = constants as usize;
     let fits = square(registers) <= out.len();
@@ -235,7 +275,12 @@ pub fn matrix_of_class(registers: u32, constants: u32, class: usize, out: &mut [
 
 // The class number of a matrix.
 pub fn class_of_matrix(registers: u32, constants: u32, matrix: &[u8]) -> Number
-    ensures { λ r. ⌜ r ≡ numberOf (matrixClassFor registers constants (now (matrix .entry))) ⌝ }
+    ensures { λ r.
+        let m : List ℕ = now (matrix .entry) in
+        let j : Judged ℕ = matrixClassFor registers constants m in
+        ⌜ (r ≡ numberOf j)
+        × (numbersOf r ≡ told (λ n. n ∷ []) j)
+        × MatrixClassMeans registers constants m r ⌝ }
 {
     let c = constants as usize;
     let fits = matrix.len() == square(registers);
@@ -259,7 +304,16 @@ pub fn contents_of_matrix(
     matrix: &[u8],
     out: &mut [u32],
 ) -> Written
-    ensures { λ r. ⌜ (r ≡ doneOf (matrixContentsFor registers (now (constants .entry)) (now (matrix .entry)) (now (out .entry)))) × (now (out .exit) ≡ writtenOf (matrixContentsFor registers (now (constants .entry)) (now (matrix .entry)) (now (out .entry))) (now (out .entry))) ⌝ }
+    ensures { λ r.
+        let cs : List ℕ = now (constants .entry) in
+        let m : List ℕ = now (matrix .entry) in
+        let before : List ℕ = now (out .entry) in
+        let after : List ℕ = now (out .exit) in
+        let j : Judged (List ℕ) = matrixContentsFor registers cs m before in
+        ⌜ (r ≡ doneOf j)
+        × (writtenNumbers r ≡ told (λ xs. []) j)
+        × (after ≡ writtenOf j before)
+        × MatrixContentsMean registers cs m r before after ⌝ }
 {
     let r = registers as usize;
     let fits = (matrix.len() == square(registers)) & (r <= out.len());

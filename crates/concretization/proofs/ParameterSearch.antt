@@ -9,7 +9,8 @@ use native.Mathlib.Omega.{arith}
 use lib.ListN.{length, getD, take, drop, set, drop-of-length-le}
 use lib.Seq.{drop-cons, take-all}
 use Rattle.graphs.specs.Lists.{upFrom, select, first, eqList}
-use Rattle.classes.specs.Classes.{noted, labels, notes, identifiers}
+use Rattle.classes.specs.Classes.{noted, labels}
+use Rattle.classes.specs.Contents.{notes, identifiers}
 use Rattle.classes.proofs.Legal.{labels-length}
 use Rattle.moves.specs.Moves.{pool}
 use Rattle.forms.specs.declared.Arc.{Arc}

@@ -1,6 +1,6 @@
 -- The identifiers to choose from, with one constant more.
 -- Assumes nothing.
-use Prim.Native.Nat.{ℕ, suc, _+_, _≤_}
+use Prim.Native.Nat.{ℕ, _+_, _≤_}
 use mathlib.Core.Bool.{Bool, true, false, cond}
 use mathlib.Core.List.{List, [], _∷_, _++_, append-assoc, append-nil}
 use mathlib.Core.Path.{_≡_, sym, ap, _∙_}
@@ -8,17 +8,8 @@ use native.Mathlib.Omega.{arith}
 use lib.Dec.{leb}
 use lib.ListN.{length, length-append}
 use Rattle.graphs.specs.Lists.{select, upFrom}
-use Rattle.graphs.proofs.Lists.{upFrom-length}
+use Rattle.graphs.proofs.Lists.{upFrom-length, select-append, select-le}
 use Rattle.moves.specs.Moves.{pool}
-use Rattle.concretization.proofs.Tried.{select-append}
-
-select-le : (p : ℕ → Bool) (xs : List ℕ) → length (select p xs) ≤ length xs
-select-le p [] = omega arith
-select-le p (x ∷ xs) = go (p x) (select-le p xs)
-  where
-    go : (b : Bool) → length (select p xs) ≤ length xs → length (cond b (x ∷ select p xs) (select p xs)) ≤ suc (length xs)
-    go true h = omega arith
-    go false h = omega arith
 
 pub pool-more : (cs : List ℕ) (x : ℕ) → cond (leb 15 x) (pool 15 cs ++ (x ∷ [])) (pool 15 cs) ≡ pool 15 (cs ++ (x ∷ []))
 pool-more cs x = go (leb 15 x) ∙ sym (ap (λ l. upFrom 0 15 ++ l) (select-append (leb 15) cs (x ∷ [])))

@@ -7,7 +7,8 @@ use mathlib.Core.Option.{Option, none, some}
 use lib.Dec.{eqb, ltb}
 use lib.ListN.{length, getD, take, set}
 use Rattle.graphs.specs.Lists.{upFrom, eqList, select, first}
-use Rattle.classes.specs.Classes.{position, noted, labels, notes, fresh, identifiers}
+use Rattle.classes.specs.Classes.{position, noted, labels}
+use Rattle.classes.specs.Contents.{notes, fresh, identifiers}
 use Rattle.moves.specs.Moves.{pool}
 use Rattle.forms.specs.declared.Arc.{Arc}
 use Rattle.lists.specs.Arrays.{padded}

@@ -1,36 +1,26 @@
 // The run along a path of configurations: the contents and the moves, in the replayer's form and as printed lines.
 
 ghost use mathlib.Core.Path.{_≡_};
-ghost use mathlib.Core.List.{[], _∷_, _++_};
+ghost use mathlib.Core.List.{List, [], _∷_, _++_};
 ghost use mathlib.Core.Option.{some};
-ghost use Prim.Native.Nat.{suc, _+_, _*_, _<_, _≤_};
+ghost use Prim.Native.Nat.{ℕ, suc, _+_, _*_, _<_, _≤_};
 ghost use lib.ListN.{length, getD, take, drop};
 ghost use lib.Seq.{paste};
-ghost use Rattle.classes.specs.Classes.{contents};
+ghost use Rattle.classes.specs.Contents.{contents};
 ghost use Rattle.automata.specs.Runs.{Move, after};
-ghost use Rattle.automata.specs.Configurations.{classes, numbered, rows};
+ghost use Rattle.automata.specs.Configurations.{classes};
+ghost use Rattle.automata.specs.ConfigurationGraph.{numbered, rows};
 ghost use Rattle.moves.specs.Moves.{smallest};
 ghost use Rattle.moves.specs.PathMoves.{startContents};
-ghost use Rattle.forms.specs.TableForm.{automatonOf};
+ghost use Rattle.automata.specs.Automaton.{Automaton};
+ghost use Rattle.forms.specs.FormAutomaton.{automatonOf};
 ghost use Rattle.lists.specs.Arrays.{padded};
 ghost use Rattle.forms.specs.ClassLabels.{Lent};
-ghost use Rattle.replay.specs.Judge.{flatMove, flatRun};
+ghost use Rattle.replay.specs.RunForm.{flatMove, flatRun};
 ghost use Rattle.concretization.specs.RunLines.{slotted, momentLine, runLines};
 ghost use Rattle.concretization.specs.PathRuns.{movesPut, linesPut, standOf, stateOf, Leaving, movesFrom, Going, pathContents, pathMoves, Pathed};
 use crate::Stand;
 use crate::smallest_move;
-
-// Writes the part to the list, from this place on.
-fn put(list: &mut [u32], at: usize, part: &[u32])
-    requires { ⌜ at + length (now part) ≤ length (now list) ⌝ }
-    ensures { λ r. ⌜ now (list .exit) ≡ paste (now (list .entry)) at (now (part .entry)) (length (now (part .entry))) ⌝ }
-{
-    let mut i = 0;
-    while i < part.len() {
-        list[at + i] = part[i];
-        i += 1;
-    }
-}
 
 // The labels of class k; zeros after them.
 fn class_row(form: &[u32], cat: &[u8], n: usize, k: usize) -> [u8; 5]
@@ -72,8 +62,8 @@ fn line(
 {
     let count = (3 + r + p) as u32;
     let mut slots = [count, moment, arc, place, 0, 0, 0, 0, 0, 0, 0, 0];
-    put(&mut slots, 4, &contents[..r]);
-    put(&mut slots, 4 + r, &params[..p]);
+    lists::put(&mut slots, 4, &contents[..r]);
+    lists::put(&mut slots, 4 + r, &params[..p]);
     slots
 }
 
@@ -106,7 +96,12 @@ fn write_step(
     lines: &mut [u32],
 ) -> Stand
     requires { ⌜ Lent (now form) (now cat) n × Leaving (automatonOf (now form)) here node × (j < 10784) × (14 + 9 * j ≤ length (now run)) × (24 + 12 * j ≤ length (now lines)) ⌝ }
-    ensures { λ r. ⌜ ((m : Move) → smallest 15 (automatonOf (now (form .entry))) (stateOf (automatonOf (now (form .entry))) here) (numbered (automatonOf (now (form .entry))) node) ≡ some m → (r ≡ standOf (after (automatonOf (now (form .entry))) m)) × (now (run .exit) ≡ paste (now (run .entry)) (5 + 9 * j) (flatMove m) 9) × (now (lines .exit) ≡ paste (now (lines .entry)) (12 + 12 * j) (momentLine (automatonOf (now (form .entry))) (suc j) m) 12)) ⌝ }
+    ensures { λ r.
+        let a : Automaton = automatonOf (now (form .entry)) in
+        ⌜ ((m : Move) → smallest 15 a (stateOf a here) (numbered a node) ≡ some m
+        → (r ≡ standOf (after a m))
+        × (now (run .exit) ≡ paste (now (run .entry)) (5 + 9 * j) (flatMove m) 9)
+        × (now (lines .exit) ≡ paste (now (lines .entry)) (12 + 12 * j) (momentLine a (suc j) m) 12)) ⌝ }
 {
     let to = node_location(form, cat, n, node);
     let labels = node_labels(form, cat, n, node);
@@ -116,11 +111,11 @@ fn write_step(
     let params = m.params;
     let next = m.next;
     let flat = nine(arc, params, next);
-    put(run, 5 + 9 * j, &flat);
+    lists::put(run, 5 + 9 * j, &flat);
     let p = forms::arc_at(form, arc as usize - 1).params as usize;
     let r = forms::registers(form);
     let shown = line((j + 1) as u32, arc, to, next, r, params, p);
-    put(lines, 12 + 12 * j, &shown);
+    lists::put(lines, 12 + 12 * j, &shown);
     Stand {
         place: to,
         contents: next,
@@ -138,8 +133,13 @@ fn write_moves(
     run: &mut [u32],
     lines: &mut [u32],
 )
-    requires { ⌜ Lent (now form) (now cat) n × Going (automatonOf (now form)) (now path) steps 0 first × (steps < 10784) × (5 + 9 * steps ≤ length (now run)) × (12 + 12 * steps ≤ length (now lines)) ⌝ }
-    ensures { λ r. ⌜ (now (run .exit) ≡ movesPut 0 (movesFrom (automatonOf (now (form .entry))) (now (path .entry)) steps 0 first) (now (run .entry))) × (now (lines .exit) ≡ linesPut (automatonOf (now (form .entry))) 0 (movesFrom (automatonOf (now (form .entry))) (now (path .entry)) steps 0 first) (now (lines .entry))) ⌝ }
+    requires { ⌜ Lent (now form) (now cat) n × Going (automatonOf (now form)) (now path) steps 0 first × (steps < 10784) × (5 + 9 * steps ≤ length (now run))
+        × (12 + 12 * steps ≤ length (now lines)) ⌝ }
+    ensures { λ r.
+        let a : Automaton = automatonOf (now (form .entry)) in
+        let ms : List Move = movesFrom a (now (path .entry)) steps 0 first in
+        ⌜ (now (run .exit) ≡ movesPut 0 ms (now (run .entry)))
+        × (now (lines .exit) ≡ linesPut a 0 ms (now (lines .entry))) ⌝ }
 {
     let mut here = first;
     let mut j = 0;
@@ -181,14 +181,19 @@ pub fn write_run(
     lines: &mut [u32],
 )
     requires { ⌜ Lent (now form) (now cat) n × Pathed (automatonOf (now form)) (now path) steps × (steps < 10784) × (5 + 9 * steps ≤ length (now run)) × (12 + 12 * steps ≤ length (now lines)) ⌝ }
-    ensures { λ r. ⌜ (now (run .exit) ≡ flatRun (pathContents (automatonOf (now (form .entry))) (now (path .entry))) (pathMoves (automatonOf (now (form .entry))) (now (path .entry)) steps) ++ drop (5 + 9 * steps) (now (run .entry))) × (now (lines .exit) ≡ runLines (automatonOf (now (form .entry))) (pathContents (automatonOf (now (form .entry))) (now (path .entry))) (pathMoves (automatonOf (now (form .entry))) (now (path .entry)) steps) ++ drop (12 * suc steps) (now (lines .entry))) ⌝ }
+    ensures { λ r.
+        let a : Automaton = automatonOf (now (form .entry)) in
+        let v : List ℕ = pathContents a (now (path .entry)) in
+        let ms : List Move = pathMoves a (now (path .entry)) steps in
+        ⌜ (now (run .exit) ≡ flatRun v ms ++ drop (5 + 9 * steps) (now (run .entry)))
+        × (now (lines .exit) ≡ runLines a v ms ++ drop (12 * suc steps) (now (lines .entry))) ⌝ }
 {
     let contents = contents_at(form, cat, n, path[0] as usize);
-    put(run, 0, &contents);
+    lists::put(run, 0, &contents);
     let place = forms::start(form) as u32;
     let r = forms::registers(form);
     let shown = line(0, 0, place, contents, r, [0, 0, 0], 0);
-    put(lines, 0, &shown);
+    lists::put(lines, 0, &shown);
     let first = Stand {
         place: place,
         contents: contents,

@@ -4,7 +4,8 @@ use mathlib.Core.Bool.{Bool}
 use mathlib.Core.List.{[]}
 use Rattle.graphs.specs.Lists.{allOf, anyOf}
 use Rattle.automata.specs.Automaton.{Automaton, meets}
-use Rattle.automata.specs.Configurations.{marks, classes}
+use Rattle.automata.specs.Configurations.{classes}
+use Rattle.automata.specs.ConfigurationGraph.{marks}
 
 -- some class meets the start conditions; `startable-exact` shows that this is so exactly if some contents meet them
 unfoldable pub startable : Automaton → Bool

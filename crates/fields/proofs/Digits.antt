@@ -21,16 +21,16 @@ low-zeros zero i = omega arith
 low-zeros (suc n) zero = omega arith
 low-zeros (suc n) (suc i) = low-zeros n i
 
-low-more : (fs : List ℕ) (n : ℕ) → Low fs → Low (fs ++ replicate n 0)
+pub low-more : (fs : List ℕ) (n : ℕ) → Low fs → Low (fs ++ replicate n 0)
 low-more [] n l i = low-zeros n i
 low-more (v ∷ fs) n l zero = l zero
 low-more (v ∷ fs) n l (suc i) = low-more fs n (λ k. l (suc k)) i
 
-low-cons : (v : ℕ) (fs : List ℕ) → v < 1000000 → Low fs → Low (v ∷ fs)
+pub low-cons : (v : ℕ) (fs : List ℕ) → v < 1000000 → Low fs → Low (v ∷ fs)
 low-cons v fs h l zero = h
 low-cons v fs h l (suc i) = l i
 
-no-number : {A : Type 0} {B : Type 0} {w : B} → none ≡ some w → A
+pub no-number : {A : Type 0} {B : Type 0} {w : B} → none ≡ some w → A
 no-number e = let z : _≡_ {A = ℕ} 0 1 = cc in absurd (omega arith)
 
 digits-low : (bs : List ℕ) (v w : ℕ) → v < room (length bs) → digitsFrom v bs ≡ some w → w < 1000000
@@ -85,6 +85,10 @@ numbers (suc n) (a ∷ b ∷ c ∷ d ∷ g ∷ h ∷ l) fs e = by (field (a ∷ 
 pub fields-length : (n : ℕ) (l fs : List ℕ) → fields n l ≡ some fs → length l ≡ 6 * length fs
 fields-length n l fs e = numbers n l fs e .0
 
--- the numbers of its row are low
+-- its numbers are low
+pub fields-low : (n : ℕ) (l fs : List ℕ) → fields n l ≡ some fs → Low fs
+fields-low n l fs e = numbers n l fs e .1
+
+-- and so are those of its row
 pub row-low : (l fs : List ℕ) → fields 6 l ≡ some fs → Low (padded fs)
-row-low l fs e = low-more fs (6 - length fs) (numbers 6 l fs e .1)
+row-low l fs e = low-more fs (6 - length fs) (fields-low 6 l fs e)

@@ -59,7 +59,7 @@ byte-lines l b = by (eqb (l .number) 0)
     by true = refl
     by false = refl
 
-not-accepted : {A S : Type 0} (x : Refusal) (u : S) → refused x ≡ accepted u → A
+pub not-accepted : {A S : Type 0} (x : Refusal) (u : S) → refused x ≡ accepted u → A
 not-accepted x u e = let z : _≡_ {A = ℕ} 0 1 = cc in absurd (omega arith)
 
 -- how many bytes a line and those after it have

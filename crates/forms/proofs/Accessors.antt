@@ -11,36 +11,37 @@ use Rattle.automata.specs.Automaton.{Transition, arity}
 use Rattle.automata.specs.Runs.{nowhere}
 use Rattle.automata.specs.WellFormed.{constantCount}
 use Rattle.automata.proofs.Equivariance.{inside→}
-use Rattle.forms.specs.TableForm.{transitionRow, cell, automatonOf}
+use Rattle.forms.specs.TableForm.{countsRow, constantRows, startRow, arityRow, transitionRow, cell}
+use Rattle.forms.specs.FormAutomaton.{automatonOf}
 use Rattle.forms.specs.Readable.{Readable}
 use Rattle.forms.proofs.Forms.{form-limits, transition-count, constant-count, transition-is, located}
 
 module _ (t : List ℕ) (r : Readable t) where
-  pub registers-is : (getD t 1 0 ≡ automatonOf t .registers) × (getD t 1 0 ≤ 5)
+  pub registers-is : (cell t countsRow 1 ≡ automatonOf t .registers) × (cell t countsRow 1 ≤ 5)
   unfolding automatonOf
   registers-is = (refl, form-limits t r .registers)
 
-  pub constants-is : (getD t 2 0 ≡ constantCount (automatonOf t)) × (getD t 2 0 ≤ 2)
+  pub constants-is : (cell t countsRow 2 ≡ constantCount (automatonOf t)) × (cell t countsRow 2 ≤ 2)
   constants-is = (sym (constant-count t), omega (arith, constant-count t, form-limits t r .constants))
 
-  pub locations-is : (getD t 3 0 ≡ automatonOf t .locations) × (1 ≤ getD t 3 0) × (getD t 3 0 ≤ 16)
+  pub locations-is : (cell t countsRow 3 ≡ automatonOf t .locations) × (1 ≤ cell t countsRow 3) × (cell t countsRow 3 ≤ 16)
   unfolding automatonOf
   locations-is = (refl, form-limits t r .locations .0, form-limits t r .locations .1)
 
-  pub transitions-is : (getD t 5 0 ≡ length (automatonOf t .transitions)) × (getD t 5 0 ≤ 64)
+  pub transitions-is : (cell t countsRow 5 ≡ length (automatonOf t .transitions)) × (cell t countsRow 5 ≤ 64)
   transitions-is = (sym (transition-count t), omega (arith, transition-count t, form-limits t r .transitions))
 
-  pub values-are : take (constantCount (automatonOf t)) (getD t 7 0 ∷ getD t 13 0 ∷ []) ≡ automatonOf t .constants
+  pub values-are : take (constantCount (automatonOf t)) (cell t constantRows 1 ∷ cell t (constantRows + 1) 1 ∷ []) ≡ automatonOf t .constants
   unfolding automatonOf
-  values-are = by (cell t 0 2) (omega (arith, constants-is .1))
+  values-are = by (cell t countsRow 2) (omega (arith, constants-is .1))
     where
-      by : (n : ℕ) → n ≤ 2 → take (length (map (λ i. cell t i 1) (upFrom 1 n))) (getD t 7 0 ∷ getD t 13 0 ∷ []) ≡ map (λ i. cell t i 1) (upFrom 1 n)
+      by : (n : ℕ) → n ≤ 2 → take (length (map (λ i. cell t i 1) (upFrom constantRows n))) (cell t constantRows 1 ∷ cell t (constantRows + 1) 1 ∷ []) ≡ map (λ i. cell t i 1) (upFrom constantRows n)
       by zero h = refl
       by (suc zero) h = refl
       by (suc (suc zero)) h = refl
       by (suc (suc (suc n))) h = absurd (omega arith)
 
-  pub start-is : (getD t 115 0 ≡ automatonOf t .start) × (1 ≤ getD t 115 0) × (getD t 115 0 ≤ 16)
+  pub start-is : (cell t startRow 1 ≡ automatonOf t .start) × (1 ≤ cell t startRow 1) × (cell t startRow 1 ≤ 16)
   unfolding automatonOf
   start-is =
       let (low, high) = inside→ (automatonOf t .locations) (automatonOf t .start) (search (and-l, and-r, r .fits) depth 9) in
@@ -54,8 +55,8 @@ module _ (t : List ℕ) (r : Readable t) where
     to-is = (ap (λ (s : Transition). s .to) (sym (transition-is t r i h)), located t r i h .to .0, located t r i h .to .1)
 
     pub parameters-are : (n : ℕ) → n ≡ cell t (transitionRow i) 2
-        → (cell t (n + 2) 1 ≡ arity (automatonOf t) (getD (automatonOf t .transitions) i nowhere)) × (cell t (n + 2) 1 ≤ 3)
+        → (cell t (arityRow n) 1 ≡ arity (automatonOf t) (getD (automatonOf t .transitions) i nowhere)) × (cell t (arityRow n) 1 ≤ 3)
     parameters-are n e =
         let (few, same) = located t r i h .params in
-        let same-cell : cell t (n + 2) 1 ≡ cell t (cell t (transitionRow i) 2 + 2) 1 = ap (λ k. cell t (k + 2) 1) e in
+        let same-cell : cell t (arityRow n) 1 ≡ cell t (arityRow (cell t (transitionRow i) 2)) 1 = ap (λ k. cell t (arityRow k) 1) e in
         (same-cell ∙ sym same ∙ ap (arity (automatonOf t)) (sym (transition-is t r i h)), omega arith)

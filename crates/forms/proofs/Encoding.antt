@@ -1,60 +1,38 @@
 -- The structs grow row by row: one line more is one condition or one assignment more.
 -- Assumes nothing.
-use Prim.Native.Nat.{ℕ, zero, suc, _+_, _≤_, _<_}
+use Prim.Native.Nat.{ℕ, _+_, _≤_, _<_}
 use mathlib.Core.Bool.{Bool, true, false, not, cond}
-use mathlib.Core.List.{List, [], _∷_, _++_, map, Memᴰ·map, append-nil}
+use mathlib.Core.List.{List, [], _∷_, _++_, map, Memᴰ·map, append-nil, map-append}
 use mathlib.Core.Path.{_≡_, refl, sym, ap, _∙_}
 use native.Mathlib.Omega.{arith}
 use lib.Dec.{T, eqb}
-use lib.ListN.{length, set, length-map}
+use lib.ListN.{length, set, length-map, length-append}
 use Rattle.lists.proofs.Arrays.{padded-map-more}
 use Rattle.graphs.specs.Lists.{upFrom, allOf, select}
-use Rattle.graphs.proofs.Lists.{allOf-mem, mem-select, mem-upFrom, upFrom-length}
+use Rattle.graphs.proofs.Lists.{allOf-mem, mem-select, mem-upFrom, upFrom-length, select-append, select-le, upFrom-append}
 use Rattle.automata.specs.Automaton.{Condition, Assignment}
 use Rattle.automata.specs.Automaton.Term.{register}
-use Rattle.forms.specs.TableForm.{cell, present, conditionAt, assignmentAt}
+use Rattle.forms.specs.TableForm.{cell}
+use Rattle.forms.specs.FormAutomaton.{present, conditionAt, assignmentAt}
 use Rattle.forms.specs.declared.Guard.{Guard}
 use Rattle.forms.specs.declared.Sets.{Sets}
 use Rattle.forms.specs.Slots.{slotOf, flag, guardOf, guardWith, setsOf, setsWith}
 
-length-more : {A : Type 0} (xs : List A) (x : A) → length xs + 1 ≡ length (xs ++ (x ∷ []))
-length-more [] x = refl
-length-more (y ∷ xs) x = let e : suc (length xs) + 1 ≡ suc (length xs + 1) = omega arith in e ∙ ap suc (length-more xs x)
-
 -- The rows that hold a line
 
-select-more : (p : ℕ → Bool) (i n : ℕ) → select p (upFrom i (suc n)) ≡ select p (upFrom i n) ++ cond (p (i + n)) ((i + n) ∷ []) []
-select-more p i zero = let e : i ≡ i + 0 = omega arith in ap (λ j. cond (p j) (j ∷ []) []) e
-select-more p i (suc n) = go (p i) (let e : suc i + n ≡ i + suc n = omega arith in select-more p (suc i) n ∙ ap (λ j. select p (upFrom (suc i) n) ++ cond (p j) (j ∷ []) []) e)
-  where
-    go : (b : Bool) → select p (upFrom (suc i) (suc n)) ≡ select p (upFrom (suc i) n) ++ cond (p (i + suc n)) ((i + suc n) ∷ []) []
-        → cond b (i ∷ select p (upFrom (suc i) (suc n))) (select p (upFrom (suc i) (suc n)))
-        ≡ cond b (i ∷ select p (upFrom (suc i) n)) (select p (upFrom (suc i) n)) ++ cond (p (i + suc n)) ((i + suc n) ∷ []) []
-    go true e = ap (λ l. i ∷ l) e
-    go false e = e
-
-select-le : (p : ℕ → Bool) (xs : List ℕ) → length (select p xs) ≤ length xs
-select-le p [] = omega arith
-select-le p (x ∷ xs) = go (p x) (select-le p xs)
-  where
-    go : (b : Bool) → length (select p xs) ≤ length xs → length (cond b (x ∷ select p xs) (select p xs)) ≤ suc (length xs)
-    go true h = omega arith
-    go false h = omega arith
-
-map-more : {A B : Type 0} (f : A → B) (xs : List A) (x : A) → map f (xs ++ (x ∷ [])) ≡ map f xs ++ (f x ∷ [])
-map-more f [] x = refl
-map-more f (y ∷ xs) x = ap (λ l. f y ∷ l) (map-more f xs x)
+select-more : (p : ℕ → Bool) (i n : ℕ) → select p (upFrom i (n + 1)) ≡ select p (upFrom i n) ++ cond (p (i + n)) ((i + n) ∷ []) []
+select-more p i n = ap (select p) (sym (upFrom-append i n 1)) ∙ select-append p (upFrom i n) (upFrom (i + n) 1)
 
 module _ {A : Type 0} (f : ℕ → A) (t : List ℕ) (row : ℕ) where
   -- the rows before i, and row i where it holds a line
   lines-more : (i : ℕ) (b : Bool) → eqb (cell t (row + i) 0) 0 ≡ b → map f (present t row (i + 1)) ≡ cond b (map f (present t row i)) (map f (present t row i) ++ (f (row + i) ∷ []))
-  lines-more i b h = let e : i + 1 ≡ suc i = omega arith in
-      ap (λ n. map f (present t row n)) e ∙ ap (map f) (select-more (λ r. not (eqb (cell t r 0) 0)) row i)
+  lines-more i b h =
+      ap (map f) (select-more (λ r. not (eqb (cell t r 0) 0)) row i)
       ∙ ap (λ d. map f (present t row i ++ cond (not d) ((row + i) ∷ []) [])) h ∙ go b
     where
       go : (d : Bool) → map f (present t row i ++ cond (not d) ((row + i) ∷ []) []) ≡ cond d (map f (present t row i)) (map f (present t row i) ++ (f (row + i) ∷ []))
       go true = ap (map f) (append-nil (present t row i))
-      go false = map-more f (present t row i) (row + i)
+      go false = map-append f (present t row i) ((row + i) ∷ [])
 
   pub lines-le : (n : ℕ) → length (map f (present t row n)) ≤ n
   lines-le n = omega (arith, length-map (present t row n) f, select-le (λ r. not (eqb (cell t r 0) 0)) (upFrom row n), upFrom-length row n)
@@ -93,7 +71,7 @@ guard-more t row i h = go (eqb (cell t (row + i) 0) 0) refl
     go : (b : Bool) → eqb (cell t (row + i) 0) 0 ≡ b → cond b (guardOf gs) more ≡ guardOf (map (conditionAt t) (present t row (i + 1)))
     go true e = ap guardOf (sym (lines-more (conditionAt t) t row i true e))
     go false e =
-        guard-path more (guardOf (gs ++ (g ∷ []))) (length-more gs g) (padded-map-more (λ d. slotOf (d .left)) 8 gs g few)
+        guard-path more (guardOf (gs ++ (g ∷ []))) (omega (arith, length-append gs (g ∷ []))) (padded-map-more (λ d. slotOf (d .left)) 8 gs g few)
         (padded-map-more (λ d. flag (d .equal)) 8 gs g few) (padded-map-more (λ d. slotOf (d .right)) 8 gs g few)
         ∙ ap guardOf (sym (lines-more (conditionAt t) t row i false e))
 
@@ -125,6 +103,6 @@ sets-more t row i h = go (eqb (cell t (row + i) 0) 0) refl
     go : (b : Bool) → eqb (cell t (row + i) 0) 0 ≡ b → cond b (setsOf ss) more ≡ setsOf (map (assignmentAt t) (present t row (i + 1)))
     go true e = ap setsOf (sym (lines-more (assignmentAt t) t row i true e))
     go false e =
-        sets-path more (setsOf (ss ++ (s ∷ []))) (length-more ss s) (padded-map-more (λ d. slotOf (d .source)) 5 ss s few)
+        sets-path more (setsOf (ss ++ (s ∷ []))) (omega (arith, length-append ss (s ∷ []))) (padded-map-more (λ d. slotOf (d .source)) 5 ss s few)
         (padded-map-more (λ d. slotOf (register (d .register))) 5 ss s few)
         ∙ ap setsOf (sym (lines-more (assignmentAt t) t row i false e))

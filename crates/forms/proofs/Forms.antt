@@ -1,23 +1,24 @@
 -- What is known of a readable form: its counts, its transitions, and that they have structs.
 -- Assumes nothing.
-use Prim.Native.Nat.{ℕ, zero, suc, _+_, _*_, _≤_, _<_, pred}
+use Prim.Native.Nat.{ℕ, _+_, _*_, _≤_, _<_, pred}
 use mathlib.Core.Bool.{Bool, true, false, not, cond}
-use mathlib.Core.List.{List, [], _∷_, map}
+use mathlib.Core.List.{List, [], _∷_}
 use mathlib.Core.Path.{_≡_, refl, sym, ap, _∙_, subst, subst⁻¹}
 use native.Mathlib.Omega.{arith}
 use borrow.Author.Tests.{eq-eqb, ne-eqb}
-use lib.Dec.{T, leb, eqb, leb→le, le→leb}
+use lib.Dec.{T, leb, eqb, leb→le}
 use lib.Ieee.Fits.{and-i, and-l, and-r}
-use lib.ListN.{length, getD, set, length-map}
-use Rattle.graphs.specs.Lists.{upFrom, allOf}
-use Rattle.graphs.proofs.Lists.{and-elim, allOf-mem, getD-mem, getD-map, upFrom-length, upFrom-getD}
+use lib.ListN.{length, getD, set}
+use Rattle.graphs.specs.Lists.{item, upFrom, allOf}
+use Rattle.graphs.proofs.Lists.{and-elim, allOf-mem, getD-mem, getD-map, upFrom-length, upFrom-getD, upFrom-values, getD-le}
 use Rattle.automata.specs.Automaton.{Term, Condition, Assignment, Transition, Automaton, arity}
 use Rattle.automata.specs.Automaton.Term.{register, parameter, constant}
 use Rattle.automata.specs.Runs.{nowhere}
 use Rattle.automata.specs.WellFormed.{inside, fitsTerm, fitsCondition, fitsAssignment, fitsTransition, constantCount, wellFormed, limited}
-use Rattle.automata.proofs.Equivariance.{inside→}
+use Rattle.automata.proofs.Equivariance.{inside→, →inside}
 use Rattle.automata.proofs.ClassBisimulation.{wf-transition}
-use Rattle.forms.specs.TableForm.{countsRow, constantRows, actionRows, startingRows, transitionRow, guardRows, assignmentRows, cell, conditionAt, assignmentAt, transitionAt, automatonOf, targetOf, termOf, termAt}
+use Rattle.forms.specs.TableForm.{countsRow, constantRows, actionRows, arityRow, startingRows, transitionRow, guardRows, assignmentRows, cell}
+use Rattle.forms.specs.FormAutomaton.{conditionAt, assignmentAt, transitionAt, automatonOf, targetOf, termOf, termAt}
 use Rattle.forms.specs.declared.Guard.{Guard}
 use Rattle.forms.specs.declared.Sets.{Sets}
 use Rattle.forms.specs.declared.Arc.{Arc}
@@ -27,9 +28,6 @@ use Rattle.lists.proofs.Arrays.{padded-below}
 use Rattle.forms.proofs.Encoding.{lines-le}
 
 -- Terms in a smaller range
-
-→inside : (n i : ℕ) → 1 ≤ i → i ≤ n → T (inside n i)
-→inside n i low high = and-i (leb 1 i) (leb i n) (le→leb 1 i low) (le→leb i n high)
 
 inside-wider : (m n i : ℕ) → m ≤ n → T (inside m i) → T (inside n i)
 inside-wider m n i h t = let (low, high) = inside→ m i t in →inside n i low (omega arith)
@@ -140,11 +138,6 @@ pub record Limits (a : Automaton) : Type 0 where
   pub starting : length (a .starting) ≤ 8
   pub transitions : length (a .transitions) ≤ 64
 
-entry-le : (n : ℕ) (xs : List ℕ) (i : ℕ) → T (allOf (λ x. leb x n) xs) → getD xs i 0 ≤ n
-entry-le n [] i t = omega arith
-entry-le n (x ∷ xs) zero t = leb→le x n (and-l (leb x n) (allOf (λ x. leb x n) xs) t)
-entry-le n (x ∷ xs) (suc i) t = entry-le n xs i (and-r (leb x n) (allOf (λ x. leb x n) xs) t)
-
 pub limits : (a : Automaton) → T (limited a) → Limits a
 limits a h =
     let few : T (allOf (λ n. leb n 3) (a .arities)) = search (and-l, and-r) depth 9 in
@@ -153,7 +146,7 @@ limits a h =
       constants = leb→le (constantCount a) 2 (search (and-l, and-r) depth 9);
       locations = inside→ 16 (a .locations) (search (and-l, and-r) depth 9);
       actions = inside→ 16 (length (a .arities)) (search (and-l, and-r) depth 9);
-      parameters = λ t. entry-le 3 (a .arities) (pred (t .action)) few;
+      parameters = λ t. getD-le 3 (a .arities) (pred (t .action)) few;
       starting = leb→le (length (a .starting)) 8 (search (and-l, and-r) depth 9);
       transitions = leb→le (length (a .transitions)) 64 (search (and-l, and-r) depth 9);
     }
@@ -170,28 +163,29 @@ pub record Located (t : List ℕ) (i : ℕ) : Type 0 where
   pub from : (1 ≤ cell t (transitionRow i) 1) × (cell t (transitionRow i) 1 ≤ 16)
   pub action : (1 ≤ cell t (transitionRow i) 2) × (cell t (transitionRow i) 2 ≤ 16)
   pub to : (1 ≤ cell t (transitionRow i) 3) × (cell t (transitionRow i) 3 ≤ 16)
-  pub params : (cell t (cell t (transitionRow i) 2 + 2) 1 ≤ 3) × (arity (automatonOf t) (transitionAt t i) ≡ cell t (cell t (transitionRow i) 2 + 2) 1)
+  pub params : (cell t (arityRow (cell t (transitionRow i) 2)) 1 ≤ 3) × (arity (automatonOf t) (transitionAt t i) ≡ cell t (arityRow (cell t (transitionRow i) 2)) 1)
   pub guard : T (allOf (fitsCondition 2 5 3) (conditionsFrom t (guardRows i)))
   pub assigns : T (allOf (fitsAssignment 2 5 3) (assignmentsFrom t (assignmentRows i)))
 
 module _ (t : List ℕ) where
   pub transition-count : length (automatonOf t .transitions) ≡ cell t countsRow 5
   unfolding automatonOf
-  transition-count = length-map (upFrom 0 (cell t countsRow 5)) (transitionAt t) ∙ upFrom-length 0 (cell t countsRow 5)
+  transition-count = upFrom-values (transitionAt t) 0 (cell t countsRow 5)
 
   pub constant-count : constantCount (automatonOf t) ≡ cell t countsRow 2
   unfolding automatonOf
-  constant-count = length-map (upFrom constantRows (cell t countsRow 2)) (λ i. cell t i 1) ∙ upFrom-length constantRows (cell t countsRow 2)
+  constant-count = upFrom-values (λ i. cell t i 1) constantRows (cell t countsRow 2)
 
-  arity-at : (i : ℕ) → T (inside (length (automatonOf t .arities)) (cell t (transitionRow i) 2)) → arity (automatonOf t) (transitionAt t i) ≡ cell t (cell t (transitionRow i) 2 + 2) 1
+  pub action-count : length (automatonOf t .arities) ≡ cell t countsRow 4
   unfolding automatonOf
-  arity-at i f =
-      let n : ℕ = cell t (transitionRow i) 2 in
-      let all : length (map (λ j. cell t j 1) (upFrom actionRows (cell t countsRow 4))) ≡ cell t countsRow 4 = length-map (upFrom actionRows (cell t countsRow 4)) (λ j. cell t j 1) ∙ upFrom-length actionRows (cell t countsRow 4) in
-      let (low, high) = inside→ (length (map (λ j. cell t j 1) (upFrom actionRows (cell t countsRow 4)))) n f in
-      let e : 3 + pred n ≡ n + 2 = omega arith in
-      getD-map (λ j. cell t j 1) (upFrom actionRows (cell t countsRow 4)) (pred n) 0 0 (omega (arith, upFrom-length actionRows (cell t countsRow 4)))
-      ∙ ap (λ j. cell t j 1) (upFrom-getD actionRows (cell t countsRow 4) (pred n) (omega arith) ∙ e)
+  action-count = upFrom-values (λ i. cell t i 1) actionRows (cell t countsRow 4)
+
+  -- the parameters of action a
+  pub arity-at : (a : ℕ) → (1 ≤ a) × (a ≤ cell t countsRow 4) → item (automatonOf t .arities) a ≡ cell t (arityRow a) 1
+  unfolding automatonOf
+  arity-at a h =
+      getD-map (λ i. cell t i 1) (upFrom actionRows (cell t countsRow 4)) (pred a) 0 0 (omega (arith, upFrom-length actionRows (cell t countsRow 4)))
+      ∙ ap (λ i. cell t i 1) (upFrom-getD actionRows (cell t countsRow 4) (pred a) (omega arith) ∙ omega arith)
 
   module _ (r : Readable t) where
     pub form-limits : Limits (automatonOf t)
@@ -221,12 +215,13 @@ module _ (t : List ℕ) where
           let (al, ah) = inside→ (length (a .arities)) (s .action) act in
           let (tl, th) = inside→ (a .locations) (s .to) (search (and-l, and-r)) in
           let few : arity a s ≤ 3 = m .parameters s in
+          let same : arity a s ≡ cell t (arityRow (s .action)) 1 = arity-at (s .action) (al, omega (arith, action-count)) in
           record {
             low = omega (arith, m .transitions);
             from = (fl, omega (arith, m .locations .1));
             action = (al, omega (arith, m .actions .1));
             to = (tl, omega (arith, m .locations .1));
-            params = (omega (arith, arity-at i act), arity-at i act);
+            params = (omega arith, same);
             guard = conditions-wider (constantCount a) (a .registers) (arity a s) (m .constants) (m .registers) few (s .guard) g;
             assigns = assignments-wider (constantCount a) (a .registers) (arity a s) (m .constants) (m .registers) few (s .assigns) ss;
           }
@@ -282,7 +277,3 @@ module _ (t : List ℕ) where
   pub target-few : length (targetOf t .conditions) ≤ 8
   unfolding targetOf
   target-few = lines-le (conditionAt t) t startingRows 8
-
-  pub starting-is : automatonOf t .starting ≡ conditionsFrom t startingRows
-  unfolding automatonOf
-  starting-is = refl

@@ -1,4 +1,5 @@
 -- The lemmas of transitions over slots.
+pub mod FormRows
 pub mod Encoding
 pub mod Forms
 pub mod TermValues

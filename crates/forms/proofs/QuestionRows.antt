@@ -7,90 +7,71 @@ use mathlib.Core.Path.{_≡_, refl, sym, ap, _∙_, subst}
 use native.Mathlib.Omega.{arith}
 use lib.Dec.{T}
 use lib.Ieee.Fits.{and-l, and-r}
-use lib.ListN.{length, getD, set, replicate, length-set, length-map}
-use lib.Seq.{getD-set-same, getD-set-other}
+use lib.ListN.{length, getD, replicate}
+use Rattle.lists.proofs.Arrays.{length-filled, filled-at, filled-kept, filled-each, zeros-at}
 use Rattle.graphs.specs.Lists.{upFrom}
-use Rattle.graphs.proofs.Lists.{getD-map, upFrom-length, upFrom-getD, upFrom-append}
+use Rattle.graphs.proofs.Lists.{getD-map, upFrom-length, upFrom-getD, upFrom-append, upFrom-agree, upFrom-values}
 use Rattle.automata.specs.Automaton.{Automaton}
 use Rattle.automata.specs.Questions.{Row}
 use Rattle.automata.specs.WellFormed.{inside, fitsRow, fitsRows, fitsQuestion}
-use Rattle.forms.specs.QuestionForm.{row, put, rowAt, rowsOf}
+use Rattle.forms.specs.QuestionForm.{questionLength, row, numbersOf, put, rowAt, rowsOf}
 
 -- The form
+
+-- the form has all numbers of row n
+abbrev pub HasRow : List ℕ → ℕ → Type 0
+HasRow t n = 3 * n + 2 < length t
+
+pub has-row : (t : List ℕ) (n : ℕ) → length t ≡ questionLength → n < 32 → HasRow t n
+has-row t n e h = omega arith
+
+row-made : (t : List ℕ) (i : ℕ) (f : ℕ → ℕ) → ((j : ℕ) → j < 3 → getD t (3 * i + j) 0 ≡ f j) → rowAt t i ≡ row (f 0) (f 1) (f 2)
+row-made t i f h =
+    let z : 3 * i ≡ 3 * i + 0 = omega arith in
+    let k : getD t (3 * i) 0 ≡ f 0 = rw z (h 0 (omega arith)) in
+    let a = h 1 (omega arith) in
+    let b = h 2 (omega arith) in
+    λ l. row (k l) (a l) (b l)
 
 module _ (t : List ℕ) (n : ℕ) (r : Row) where
   pub put-length : length (put t n r) ≡ length t
   unfolding put
-  put-length = simp length-set
+  put-length = length-filled t (3 * n) _ 3
 
-  put-away : (i : ℕ) → i ≢ 3 * n → i ≢ 3 * n + 1 → i ≢ 3 * n + 2 → getD (put t n r) i 0 ≡ getD t i 0
+  put-kept : (i : ℕ) → i ≢ n → rowAt (put t n r) i ≡ rowAt t i
   unfolding put
-  put-away i a b c = simp getD-set-other
+  put-kept i d =
+      let f : ℕ → ℕ = λ j. getD t (3 * i + j) 0 in
+      row-made (put t n r) i f (λ j h. filled-kept t 3 n _ i j d h) ∙ sym (row-made t i f (λ j h. refl))
 
-  put-below : (i : ℕ) → i < n → rowAt (put t n r) i ≡ rowAt t i
-  put-below i h =
-      let a : getD (put t n r) (3 * i) 0 ≡ getD t (3 * i) 0 = put-away (3 * i) (omega arith) (omega arith) (omega arith) in
-      let b : getD (put t n r) (3 * i + 1) 0 ≡ getD t (3 * i + 1) 0 = put-away (3 * i + 1) (omega arith) (omega arith) (omega arith) in
-      let c : getD (put t n r) (3 * i + 2) 0 ≡ getD t (3 * i + 2) 0 = put-away (3 * i + 2) (omega arith) (omega arith) (omega arith) in
-      λ j. row (a j) (b j) (c j)
-
-  module _ (h : 3 * n + 2 < length t) where
-    put-kind : getD (put t n r) (3 * n) 0 ≡ r .kind
-    unfolding put
-    put-kind =
-        let a : 3 * n ≢ 3 * n + 1 = omega arith in
-        let b : 3 * n ≢ 3 * n + 2 = omega arith in
-        let k : 3 * n < length t = omega arith in
-        simp (getD-set-other, getD-set-same)
-
-    put-first : getD (put t n r) (3 * n + 1) 0 ≡ r .first
-    unfolding put
-    put-first =
-        let b : 3 * n + 1 ≢ 3 * n + 2 = omega arith in
-        let k : 3 * n + 1 < length (set t (3 * n) (r .kind)) = simp length-set (omega arith) in
-        simp (getD-set-other, getD-set-same)
-
-    put-second : getD (put t n r) (3 * n + 2) 0 ≡ r .second
-    unfolding put
-    put-second =
-        let k : 3 * n + 2 < length (set (set t (3 * n) (r .kind)) (3 * n + 1) (r .first)) = simp length-set (omega arith) in
-        simp getD-set-same
-
-    put-at : rowAt (put t n r) n ≡ r
-    put-at = let a = put-kind in let b = put-first in let c = put-second in λ j. row (a j) (b j) (c j)
+  put-at : HasRow t n → rowAt (put t n r) n ≡ r
+  unfolding put
+  put-at h = row-made (put t n r) n (λ j. getD (numbersOf r) j 0) (λ j k. filled-at t (3 * n) _ 3 j (omega arith) k)
 
 pub rows-length : (t : List ℕ) (n : ℕ) → length (rowsOf t n) ≡ n
-rows-length t n = length-map (upFrom 0 n) (rowAt t) ∙ upFrom-length 0 n
+rows-length t n = upFrom-values (rowAt t) 0 n
 
--- equal where their values are
-map-upFrom : (f g : ℕ → Row) (i n : ℕ) → ((j : ℕ) → j < i + n → f j ≡ g j) → map f (upFrom i n) ≡ map g (upFrom i n)
-map-upFrom f g i zero h = refl
-map-upFrom f g i (suc n) h = cc (h i (omega arith), map-upFrom f g (suc i) n (λ j k. h j (omega arith)))
-
-pub rows-put : (t : List ℕ) (n : ℕ) (r : Row) → 3 * n + 2 < length t → rowsOf (put t n r) (n + 1) ≡ rowsOf t n ++ (r ∷ [])
-rows-put t n r h =
+pub rows-more : (t : List ℕ) (n : ℕ) → rowsOf t (n + 1) ≡ rowsOf t n ++ (rowAt t n ∷ [])
+rows-more t n =
     let z : 0 + n ≡ n = omega arith in
-    ap (map (rowAt (put t n r))) (sym (upFrom-append 0 n 1))
-    ∙ map-append (rowAt (put t n r)) (upFrom 0 n) (upFrom (0 + n) 1)
-    ∙ cc (map-upFrom (rowAt (put t n r)) (rowAt t) 0 n (λ j k. put-below t n r j (omega arith)), ap (rowAt (put t n r)) z ∙ put-at t n r h)
+    ap (map (rowAt t)) (sym (upFrom-append 0 n 1)) ∙ map-append (rowAt t) (upFrom 0 n) (upFrom (0 + n) 1) ∙ rw z
 
-set-low : (m : ℕ) (l : List ℕ) (i v : ℕ) → v ≤ m → ((j : ℕ) → getD l j 0 ≤ m) → (j : ℕ) → getD (set l i v) j 0 ≤ m
-set-low m [] i v h f j = f j
-set-low m (x ∷ l) zero v h f zero = h
-set-low m (x ∷ l) zero v h f (suc j) = f (suc j)
-set-low m (x ∷ l) (suc i) v h f zero = f zero
-set-low m (x ∷ l) (suc i) v h f (suc j) = set-low m l i v h (λ k. f (suc k)) j
+pub rows-put : (t : List ℕ) (n : ℕ) (r : Row) → HasRow t n → rowsOf (put t n r) (n + 1) ≡ rowsOf t n ++ (r ∷ [])
+rows-put t n r h =
+    rows-more (put t n r) n ∙ cc (upFrom-agree (rowAt (put t n r)) (rowAt t) 0 n (λ j k l. put-kept t n r j (omega arith)), put-at t n r h)
 
 pub put-low : (m : ℕ) (t : List ℕ) (n : ℕ) (r : Row) → r .kind ≤ m → r .first ≤ m → r .second ≤ m → ((j : ℕ) → getD t j 0 ≤ m) → (j : ℕ) → getD (put t n r) j 0 ≤ m
 unfolding put
-put-low m t n r a b c f =
-    set-low m (set (set t (3 * n) (r .kind)) (3 * n + 1) (r .first)) (3 * n + 2) (r .second) c
-    (set-low m (set t (3 * n) (r .kind)) (3 * n + 1) (r .first) b (set-low m t (3 * n) (r .kind) a f))
+put-low m t n r a b c = filled-each (λ x. x ≤ m) t (3 * n) (λ i. getD (numbersOf r) i 0) 3 by
+  where
+    by : (i : ℕ) → i < 3 → getD (numbersOf r) i 0 ≤ m
+    by zero h = a
+    by (suc zero) h = b
+    by (suc (suc zero)) h = c
+    by (suc (suc (suc i))) h = absurd (omega arith)
 
 pub zeros-low : (m n j : ℕ) → getD (replicate n 0) j 0 ≤ m
-zeros-low m zero j = omega arith
-zeros-low m (suc n) zero = omega arith
-zeros-low m (suc n) (suc j) = zeros-low m n j
+zeros-low m n j = omega (arith, zeros-at n j)
 
 -- The rows of a form, one by one
 

@@ -1,5 +1,6 @@
 -- What the contracts of forms cite.
 pub mod TableForm
+pub mod FormAutomaton
 pub mod Readable
 pub mod ClassLabels
 pub mod Slots

@@ -2,21 +2,30 @@
 -- This is what a reader believes.
 -- Assumes nothing.
 use Prim.Native.Nat.{ℕ, _+_, _*_}
-use mathlib.Core.List.{List, map}
-use lib.ListN.{getD, set, replicate}
+use mathlib.Core.List.{List, [], _∷_, map}
+use lib.ListN.{getD, replicate}
+use Rattle.lists.specs.Filling.{filled}
 use Rattle.graphs.specs.Lists.{upFrom}
 use Rattle.automata.specs.Questions.{Row}
 
 abbrev pub row : ℕ → ℕ → ℕ → Row
 row k a b = record { kind = k; first = a; second = b }
 
+-- a form's numbers
+abbrev pub questionLength : ℕ
+questionLength = 96
+
 -- a form with no rows
 abbrev pub noRows : List ℕ
-noRows = replicate 96 0
+noRows = replicate questionLength 0
+
+-- the numbers of a row
+abbrev pub numbersOf : Row → List ℕ
+numbersOf r = r .kind ∷ r .first ∷ r .second ∷ []
 
 -- the form t with r as row i
 unfoldable pub put : List ℕ → ℕ → Row → List ℕ
-put t i r = set (set (set t (3 * i) (r .kind)) (3 * i + 1) (r .first)) (3 * i + 2) (r .second)
+put t i r = filled t (3 * i) (λ j. getD (numbersOf r) j 0) 3
 
 -- row i of the form
 abbrev pub rowAt : List ℕ → ℕ → Row

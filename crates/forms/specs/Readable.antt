@@ -6,7 +6,8 @@ use mathlib.Core.Path.{_≡_}
 use lib.Dec.{T}
 use lib.ListN.{length}
 use Rattle.automata.specs.WellFormed.{wellFormed, limited}
-use Rattle.forms.specs.TableForm.{formLength, automatonOf}
+use Rattle.forms.specs.TableForm.{formLength}
+use Rattle.forms.specs.FormAutomaton.{automatonOf}
 
 -- a form whose automaton has all its numbers in range, within document 01's limits
 pub record Readable (t : List ℕ) : Type 0 where

@@ -13,7 +13,8 @@ use Rattle.graphs.specs.Lists.{item}
 use Rattle.automata.specs.Automaton.{Term, Condition, Assignment, Transition, Automaton, arity}
 use Rattle.automata.specs.Automaton.Term.{register, parameter, constant}
 use Rattle.automata.specs.WellFormed.{fitsCondition, fitsAssignment}
-use Rattle.forms.specs.TableForm.{cell, present, termAt, conditionAt, assignmentAt}
+use Rattle.forms.specs.TableForm.{cell}
+use Rattle.forms.specs.FormAutomaton.{present, termAt, conditionAt, assignmentAt}
 use Rattle.forms.specs.declared.Guard.{Guard}
 use Rattle.forms.specs.declared.Sets.{Sets}
 use Rattle.forms.specs.declared.Arc.{Arc}

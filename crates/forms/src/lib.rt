@@ -1,7 +1,11 @@
 // The form of a read table or question: what stands in it, by small functions that speak of its automaton; its transitions and conditions as small structs over
 // slots, and the test whether conditions hold.
 // Slots 0 and 1 are the constants, 2 to 6 the registers, 7 to 9 the parameters. The same code serves identifiers and class labels.
+mod rows;
 
+pub use rows::cell;
+pub use rows::put_question_row;
+pub use rows::put_row;
 ghost use mathlib.Core.Path.{_≡_};
 ghost use mathlib.Core.List.{map};
 ghost use Prim.Native.Nat.{ℕ, _+_, _*_, _<_, _≤_};
@@ -11,16 +15,23 @@ ghost use Rattle.graphs.specs.Lists.{allOf};
 ghost use Rattle.automata.specs.Automaton.{arity};
 ghost use Rattle.automata.specs.WellFormed.{constantCount, fitsCondition, fitsAssignment};
 ghost use Rattle.automata.specs.Runs.{nowhere};
-ghost use Rattle.forms.specs.TableForm.{formLength, cell, transitionRow, termOf, automatonOf, targetOf};
+ghost use Rattle.forms.specs.TableForm.{rowCount, formLength, arityRow, cell, transitionRow};
+ghost use Rattle.forms.specs.FormAutomaton.{termOf, automatonOf, targetOf};
 ghost use Rattle.forms.specs.Readable.{Readable};
 ghost use Rattle.forms.specs.ClassLabels.{valuesAt};
 ghost use Rattle.forms.specs.Shapes.{shape, shapeOf};
 ghost use Rattle.forms.specs.Slots.{slotOf, flag, guardOf, conditionsFrom, ConditionFits, FitsGuard, guardWith, holdsAt, holdsAll, setsOf, assignmentsFrom, AssignmentFits, setsWith, arcOf};
+use crate::Operand::*;
+use crate::Operation::*;
+use crate::Rule::*;
+use crate::Use::*;
 
 // A table's flat form: how many numbers it has, and in which rows of six its lines stand, as TableForm says.
-pub const LENGTH: usize = 5544;
+const ROWS: usize = 924;
 
-pub type Form = [u32; 5544];
+pub const LENGTH: usize = 6 * ROWS;
+
+pub type Form = [u32; LENGTH];
 
 pub const COUNTS_ROW: usize = 0;
 
@@ -39,16 +50,27 @@ pub const GUARD_ROWS: usize = 29;
 pub const ASSIGNMENT_ROWS: usize = 37;
 
 pub const ROWS_EACH: usize = 14;
-// The row before that of the first action's line 3, the numbers of a row, and the columns of the counts of line 1.
+// The row before that of the first action's line 3, and the columns of the counts of line 1.
 pub const ARITY_ROWS: usize = 2;
-
-pub const ROW: usize = 6;
 
 pub const REGISTERS: usize = 1;
 
 pub const CONSTANTS: usize = 2;
 
 pub const LOCATIONS: usize = 3;
+
+const TRANSITIONS: usize = 5;
+// Where the constants and the start location stand.
+const FIRST_CONSTANT: usize = 6 * CONSTANT_ROWS + 1;
+
+const SECOND_CONSTANT: usize = 6 * (CONSTANT_ROWS + 1) + 1;
+
+const START: usize = 6 * START_ROW + 1;
+
+// A question's flat form, as QuestionForm says.
+pub const QUESTION_LENGTH: usize = 96;
+
+pub type Question = [u32; QUESTION_LENGTH];
 
 fn wide(n: u32) -> usize
     ensures { λ r. ⌜ r ≡ n ⌝ }
@@ -67,28 +89,28 @@ pub fn registers(form: &[u32]) -> usize
     requires { ⌜ Readable (now form) ⌝ }
     ensures { λ r. ⌜ (r ≡ automatonOf (now (form .entry)) .registers) × (r ≤ 5) ⌝ }
 {
-    wide(form[1])
+    wide(form[REGISTERS])
 }
 
 pub fn constants(form: &[u32]) -> usize
     requires { ⌜ Readable (now form) ⌝ }
     ensures { λ r. ⌜ (r ≡ constantCount (automatonOf (now (form .entry)))) × (r ≤ 2) ⌝ }
 {
-    wide(form[2])
+    wide(form[CONSTANTS])
 }
 
 pub fn locations(form: &[u32]) -> usize
     requires { ⌜ Readable (now form) ⌝ }
     ensures { λ r. ⌜ (r ≡ automatonOf (now (form .entry)) .locations) × (1 ≤ r) × (r ≤ 16) ⌝ }
 {
-    wide(form[3])
+    wide(form[LOCATIONS])
 }
 
 pub fn transitions(form: &[u32]) -> usize
     requires { ⌜ Readable (now form) ⌝ }
     ensures { λ r. ⌜ (r ≡ length (automatonOf (now (form .entry)) .transitions)) × (r ≤ 64) ⌝ }
 {
-    wide(form[5])
+    wide(form[TRANSITIONS])
 }
 
 // The constants, in an array of two.
@@ -96,7 +118,7 @@ pub fn constant_values(form: &[u32]) -> [u32; 2]
     requires { ⌜ Readable (now form) ⌝ }
     ensures { λ r. ⌜ take (constantCount (automatonOf (now (form .entry)))) r ≡ automatonOf (now (form .entry)) .constants ⌝ }
 {
-    [form[7], form[13]]
+    [form[FIRST_CONSTANT], form[SECOND_CONSTANT]]
 }
 
 // The location of a target, or of a table's start: a table's form is that of a target too.
@@ -104,14 +126,14 @@ pub fn target_location(form: &[u32]) -> usize
     requires { ⌜ length (now form) ≡ formLength ⌝ }
     ensures { λ r. ⌜ r ≡ targetOf (now (form .entry)) .location ⌝ }
 {
-    wide(form[115])
+    wide(form[START])
 }
 
 pub fn start(form: &[u32]) -> usize
     requires { ⌜ Readable (now form) ⌝ }
     ensures { λ r. ⌜ (r ≡ automatonOf (now (form .entry)) .start) × (1 ≤ r) × (r ≤ 16) ⌝ }
 {
-    wide(form[115])
+    wide(form[START])
 }
 
 // The number in this column of the line 6 of transition i, counted from 0.
@@ -119,7 +141,7 @@ fn field(form: &[u32], i: usize, column: usize) -> usize
     requires { ⌜ (length (now form) ≡ formLength) × (i < 64) × (column < 6) ⌝ }
     ensures { λ r. ⌜ r ≡ cell (now (form .entry)) (transitionRow i) column ⌝ }
 {
-    wide(form[6 * (28 + 14 * i) + column])
+    wide(form[6 * (TRANSITION_ROWS + ROWS_EACH * i) + column])
 }
 
 // The location that transition i, counted from 0, leaves, and the one that it enters.
@@ -140,9 +162,9 @@ pub fn to(form: &[u32], i: usize) -> usize
 // The arity of an action, counted from 1.
 fn action_arity(form: &[u32], action: usize) -> usize
     requires { ⌜ (length (now form) ≡ formLength) × (action ≤ 16) ⌝ }
-    ensures { λ r. ⌜ r ≡ cell (now (form .entry)) (action + 2) 1 ⌝ }
+    ensures { λ r. ⌜ r ≡ cell (now (form .entry)) (arityRow action) 1 ⌝ }
 {
-    wide(form[6 * (action + 2) + 1])
+    wide(form[6 * (ARITY_ROWS + action) + 1])
 }
 
 // How many parameters transition i takes.
@@ -208,7 +230,7 @@ fn sign(relation: u32) -> u8
 
 // The guard with the condition of this row, if it holds one.
 fn with_condition(g: Guard, form: &[u32], row: usize) -> Guard
-    requires { ⌜ (row < 924) × (length (now form) ≡ formLength) × (g .count < 8) × ConditionFits (now form) row ⌝ }
+    requires { ⌜ (row < rowCount) × (length (now form) ≡ formLength) × (g .count < 8) × ConditionFits (now form) row ⌝ }
     ensures { λ r. ⌜ r ≡ guardWith g (now (form .entry)) row ⌝ }
 {
     let at = 6 * row;
@@ -235,7 +257,7 @@ fn with_condition(g: Guard, form: &[u32], row: usize) -> Guard
 
 // The conditions in the eight rows from this one on.
 pub fn guard_at(form: &[u32], row: usize) -> Guard
-    requires { ⌜ (length (now form) ≡ formLength) × (row + 8 ≤ 924) × T (allOf (fitsCondition 2 5 3) (conditionsFrom (now form) row)) ⌝ }
+    requires { ⌜ (length (now form) ≡ formLength) × (row + 8 ≤ rowCount) × T (allOf (fitsCondition 2 5 3) (conditionsFrom (now form) row)) ⌝ }
     ensures { λ r. ⌜ r ≡ guardOf (conditionsFrom (now (form .entry)) row) ⌝ }
 {
     let mut g = Guard {
@@ -257,12 +279,12 @@ pub fn target_guard(form: &[u32]) -> Guard
     requires { ⌜ (length (now form) ≡ formLength) × T (allOf (fitsCondition 2 5 3) (targetOf (now form) .conditions)) ⌝ }
     ensures { λ r. ⌜ (r ≡ guardOf (targetOf (now (form .entry)) .conditions)) × FitsGuard r ⌝ }
 {
-    guard_at(form, 20)
+    guard_at(form, STARTING_ROWS)
 }
 
 // The assignments with that of this row, if it holds one.
 fn with_set(s: Sets, form: &[u32], row: usize) -> Sets
-    requires { ⌜ (row < 924) × (length (now form) ≡ formLength) × (s .count < 5) × AssignmentFits (now form) row ⌝ }
+    requires { ⌜ (row < rowCount) × (length (now form) ≡ formLength) × (s .count < 5) × AssignmentFits (now form) row ⌝ }
     ensures { λ r. ⌜ r ≡ setsWith s (now (form .entry)) row ⌝ }
 {
     let at = 6 * row;
@@ -285,7 +307,7 @@ fn with_set(s: Sets, form: &[u32], row: usize) -> Sets
 
 // The assignments in the five rows from this one on.
 fn sets_at(form: &[u32], row: usize) -> Sets
-    requires { ⌜ (length (now form) ≡ formLength) × (row + 5 ≤ 924) × T (allOf (fitsAssignment 2 5 3) (assignmentsFrom (now form) row)) ⌝ }
+    requires { ⌜ (length (now form) ≡ formLength) × (row + 5 ≤ rowCount) × T (allOf (fitsAssignment 2 5 3) (assignmentsFrom (now form) row)) ⌝ }
     ensures { λ r. ⌜ r ≡ setsOf (assignmentsFrom (now (form .entry)) row) ⌝ }
 {
     let mut s = Sets {
@@ -310,8 +332,8 @@ pub fn arc_at(form: &[u32], i: usize) -> Arc
     let action = field(form, i, 2);
     let to = field(form, i, 3);
     let params = parameters(form, i);
-    let guard = guard_at(form, 29 + 14 * i);
-    let s = sets_at(form, 37 + 14 * i);
+    let guard = guard_at(form, GUARD_ROWS + ROWS_EACH * i);
+    let s = sets_at(form, ASSIGNMENT_ROWS + ROWS_EACH * i);
     let source = s.source;
     let target = s.target;
     Arc {
@@ -381,23 +403,30 @@ pub enum Use {
     Unused,
 }
 
-// The rule that gives the set of a row.
-pub enum Rule {
+// What an operation takes: true, or the row that the first or the second field names, as it is or negated.
+pub enum Operand {
+    True,
+    First,
+    Second,
+    NotFirst,
+    NotSecond,
+}
+
+// The seven operations: the location, two registers equal, a register equal to a constant; and, EX, E U and EG.
+pub enum Operation {
     At,
     Equal,
     Is,
-    Not,
-    And,
-    Ex,
-    Until,
-    Globally,
-    Or,
-    Implies,
-    AllNext,
-    Finally,
-    AllGlobally,
-    AllFinally,
-    Truth,
+    And(Operand, Operand),
+    Ex(Operand),
+    Until(Operand, Operand),
+    Globally(Operand),
+}
+
+// The rule that gives the set of a row: an operation, as it is or negated.
+pub enum Rule {
+    Plain(Operation),
+    Not(Operation),
 }
 
 // A kind of row: what its fields name, and its rule.
@@ -417,25 +446,26 @@ fn shaped(first: Use, second: Use, rule: Rule) -> Shape
     }
 }
 
-// The shape of a kind; a number that is no kind names nothing and is true.
+// The shape of a kind, by the one match over the kinds. Not a is not (a and a), kinds 9 to 14 are source 001's abbreviations, and a number that is no kind
+// names nothing and is true.
 pub fn shape_of(kind: u32) -> Shape
     ensures { λ r. ⌜ r ≡ shapeOf kind ⌝ }
 {
     match kind {
-        1 => shaped(Use::Location, Use::Unused, Rule::At),
-        2 => shaped(Use::Register, Use::Register, Rule::Equal),
-        3 => shaped(Use::Register, Use::Constant, Rule::Is),
-        4 => shaped(Use::Row, Use::Unused, Rule::Not),
-        5 => shaped(Use::Row, Use::Row, Rule::And),
-        6 => shaped(Use::Row, Use::Unused, Rule::Ex),
-        7 => shaped(Use::Row, Use::Row, Rule::Until),
-        8 => shaped(Use::Row, Use::Unused, Rule::Globally),
-        9 => shaped(Use::Row, Use::Row, Rule::Or),
-        10 => shaped(Use::Row, Use::Row, Rule::Implies),
-        11 => shaped(Use::Row, Use::Unused, Rule::AllNext),
-        12 => shaped(Use::Row, Use::Unused, Rule::Finally),
-        13 => shaped(Use::Row, Use::Unused, Rule::AllGlobally),
-        14 => shaped(Use::Row, Use::Unused, Rule::AllFinally),
-        _ => shaped(Use::Unused, Use::Unused, Rule::Truth),
+        1 => shaped(Location, Unused, Plain(At)),
+        2 => shaped(Register, Register, Plain(Equal)),
+        3 => shaped(Register, Constant, Plain(Is)),
+        4 => shaped(Row, Unused, Not(And(First, First))),
+        5 => shaped(Row, Row, Plain(And(First, Second))),
+        6 => shaped(Row, Unused, Plain(Ex(First))),
+        7 => shaped(Row, Row, Plain(Until(First, Second))),
+        8 => shaped(Row, Unused, Plain(Globally(First))),
+        9 => shaped(Row, Row, Not(And(NotFirst, NotSecond))),
+        10 => shaped(Row, Row, Not(And(First, NotSecond))),
+        11 => shaped(Row, Unused, Not(Ex(NotFirst))),
+        12 => shaped(Row, Unused, Plain(Until(True, First))),
+        13 => shaped(Row, Unused, Not(Until(True, NotFirst))),
+        14 => shaped(Row, Unused, Not(Globally(NotFirst))),
+        _ => shaped(Unused, Unused, Plain(And(True, True))),
     }
 }

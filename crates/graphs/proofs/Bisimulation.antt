@@ -5,10 +5,10 @@ use mathlib.Core.Bool.{Bool}
 use mathlib.Core.Path.{refl, subst⁻¹}
 use mathlib.Core.Logic.{_↔_}
 use lib.Dec.{T}
-use Rattle.graphs.specs.Formulas.{Formula, Until, Forever, Sat, everyAtom}
+use Rattle.graphs.specs.Formulas.{Formula, Until, Forever, Sat}
 use Rattle.graphs.specs.Formulas.Formula.{truth, atom, neg, both, EX, EU, EG}
 use Rattle.graphs.specs.Formulas.Until.{now, later}
-use Rattle.graphs.specs.Systems.{Simulation, Bisimulation}
+use Rattle.graphs.specs.Systems.{Simulation, Bisimulation, everyAtom}
 use Rattle.graphs.proofs.Lists.{T-and}
 
 -- B carries P to P′: where P holds, P′ holds at each related state

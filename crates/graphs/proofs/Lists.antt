@@ -9,10 +9,11 @@ use mathlib.Core.Path.{_≡_, refl, sym, ap, _∙_}
 use native.Mathlib.Decide.{ℕ-discrete, decLt}
 use native.Mathlib.Nat.{mul-le-mul-right}
 use native.Mathlib.Omega.{arith}
-use lib.Dec.{T, eqb, eqb→eq, eqb-refl}
+use lib.Dec.{T, eqb, leb, eqb→eq, eqb-refl, leb→le}
 use lib.Ieee.Fits.{and-i, and-l, and-r}
 use lib.ListN.{length, getD, length-map, length-append, List·getD-append}
-use Rattle.graphs.specs.Lists.{upFrom, eqList, allOf, anyOf, select, first, table, least}
+use Rattle.graphs.specs.Lists.{upFrom, eqList, allOf, anyOf, select, first, table}
+use Rattle.graphs.specs.ListSearches.{least}
 
 -- Tests
 
@@ -40,6 +41,9 @@ pub T-false : (b : Bool) → (T b → ⊥) → b ≡ false
 T-false true h = absurd (h tt)
 T-false false h = refl
 
+pub eqb-sym : (a b : ℕ) → eqb a b ≡ eqb b a
+eqb-sym a b = T-ext (eqb a b) (eqb b a) (λ t. rw (eqb→eq a b t) (eqb-refl b)) (λ t. rw (eqb→eq b a t) (eqb-refl a))
+
 pub eqList→eq : (xs ys : List ℕ) → T (eqList xs ys) → xs ≡ ys
 eqList→eq [] [] t = refl
 eqList→eq (x ∷ xs) (y ∷ ys) t = let (h, r) = and-elim (eqb x y) (eqList xs ys) t in cc (eqb→eq x y h, eqList→eq xs ys r)
@@ -47,6 +51,11 @@ eqList→eq (x ∷ xs) (y ∷ ys) t = let (h, r) = and-elim (eqb x y) (eqList xs
 pub eqList-refl : (xs : List ℕ) → T (eqList xs xs)
 eqList-refl [] = tt
 eqList-refl (x ∷ xs) = and-i (eqb x x) (eqList xs xs) (eqb-refl x) (eqList-refl xs)
+
+-- a choice between two numbers is at most m where both are
+pub cond-le : (b : Bool) {x y m : ℕ} → x ≤ m → y ≤ m → cond b x y ≤ m
+cond-le true h k = h
+cond-le false h k = k
 
 cond-true : (b c : Bool) → T b → T (cond b true c)
 cond-true true c t = tt
@@ -66,6 +75,10 @@ module _ {A : Type 0} where
   allOf-mem p (y ∷ ys) t (List·Memᴰ·head e) = rw e (and-l (p y) (allOf p ys) t)
   allOf-mem p (y ∷ ys) t (List·Memᴰ·tail m) = allOf-mem p ys (and-r (p y) (allOf p ys) t) m
 
+  pub all-intro : (p : A → Bool) (xs : List A) → ((x : A) → List·Memᴰ x xs → T (p x)) → T (allOf p xs)
+  all-intro p [] h = tt
+  all-intro p (x ∷ xs) h = and-i (p x) (allOf p xs) (h x (List·Memᴰ·head refl)) (all-intro p xs (λ y m. h y (List·Memᴰ·tail m)))
+
   pub anyOf-intro : (p : A → Bool) {xs : List A} {x : A} → List·Memᴰ x xs → T (p x) → T (anyOf p xs)
   anyOf-intro p {xs = y ∷ ys} (List·Memᴰ·head e) t = cond-true (p y) (anyOf p ys) (rw e at t)
   anyOf-intro p {xs = y ∷ ys} (List·Memᴰ·tail m) t = cond-rest (p y) (anyOf p ys) (anyOf-intro p m t)
@@ -81,6 +94,23 @@ module _ {A : Type 0} where
   pub allOf-eqb : (f g : A → ℕ) (xs : List A) → allOf (λ x. eqb (f x) (g x)) xs ≡ eqList (map f xs) (map g xs)
   allOf-eqb f g [] = refl
   allOf-eqb f g (x ∷ xs) = ap (λ b. eqb (f x) (g x) && b) (allOf-eqb f g xs)
+
+  pub select-append : (p : A → Bool) (us vs : List A) → select p (us ++ vs) ≡ select p us ++ select p vs
+  select-append p [] vs = refl
+  select-append p (u ∷ us) vs = go (p u) (select-append p us vs)
+    where
+      go : (b : Bool) → select p (us ++ vs) ≡ select p us ++ select p vs
+          → cond b (u ∷ select p (us ++ vs)) (select p (us ++ vs)) ≡ cond b (u ∷ select p us) (select p us) ++ select p vs
+      go true e = ap (λ l. u ∷ l) e
+      go false e = e
+
+  pub select-le : (p : A → Bool) (xs : List A) → length (select p xs) ≤ length xs
+  select-le p [] = omega arith
+  select-le p (x ∷ xs) = go (p x) (select-le p xs)
+    where
+      go : (b : Bool) → length (select p xs) ≤ length xs → length (cond b (x ∷ select p xs) (select p xs)) ≤ suc (length xs)
+      go true h = omega arith
+      go false h = omega arith
 
   pub select-mem : (p : A → Bool) (xs : List A) {x : A} → List·Memᴰ x (select p xs) → List·Memᴰ x xs × T (p x)
   select-mem p (y ∷ ys) {x} m = step (p y) refl m (select-mem p ys)
@@ -137,10 +167,19 @@ module _ {A : Type 0} where
   append-inj (x ∷ xs) [] us vs l e = absurd (omega arith)
   append-inj (x ∷ xs) (y ∷ ys) us vs l e = let (h, t) = append-inj xs ys us vs (omega arith) (cc) in (cc, t)
 
+pub all-map : {A B : Type 0} (p : B → Bool) (f : A → B) (xs : List A) → ((x : A) → List·Memᴰ x xs → T (p (f x))) → T (allOf p (map f xs))
+all-map p f [] h = tt
+all-map p f (x ∷ xs) h = and-i (p (f x)) (allOf p (map f xs)) (h x (List·Memᴰ·head refl)) (all-map p f xs (λ y m. h y (List·Memᴰ·tail m)))
+
 pub getD-map : {A B : Type 0} (f : A → B) (xs : List A) (i : ℕ) (d : A) (d′ : B) → i < length xs → getD (map f xs) i d′ ≡ f (getD xs i d)
 getD-map f [] i d d′ h = absurd (omega arith)
 getD-map f (x ∷ xs) zero d d′ h = refl
 getD-map f (x ∷ xs) (suc i) d d′ h = getD-map f xs i d d′ (omega arith)
+
+pub getD-le : (n : ℕ) (xs : List ℕ) (i : ℕ) → T (allOf (λ x. leb x n) xs) → getD xs i 0 ≤ n
+getD-le n [] i t = omega arith
+getD-le n (x ∷ xs) zero t = leb→le x n (and-l (leb x n) (allOf (λ x. leb x n) xs) t)
+getD-le n (x ∷ xs) (suc i) t = getD-le n xs i (and-r (leb x n) (allOf (λ x. leb x n) xs) t)
 
 pub mem-flatMap : {A B : Type 0} (f : A → List B) (xs : List A) {x : A} {l : B} → List·Memᴰ x xs → List·Memᴰ l (f x) → List·Memᴰ l (flatMap f xs)
 unfolding flatMap
@@ -205,6 +244,14 @@ mem-upFrom i (suc n) x h h′ =
 pub upFrom-mem : (i n : ℕ) {x : ℕ} → List·Memᴰ x (upFrom i n) → (i ≤ x) × (x < i + n)
 upFrom-mem i (suc n) (List·Memᴰ·head e) = omega arith
 upFrom-mem i (suc n) (List·Memᴰ·tail m) = let (h, h′) = upFrom-mem (suc i) n m in omega arith
+
+-- functions that agree on them, and how many values there are
+pub upFrom-agree : {A : Type 0} (f g : ℕ → A) (i n : ℕ) → ((j : ℕ) → i ≤ j → j < i + n → f j ≡ g j) → map f (upFrom i n) ≡ map g (upFrom i n)
+upFrom-agree f g i zero h = refl
+upFrom-agree f g i (suc n) h = cc (h i (omega arith) (omega arith), upFrom-agree f g (suc i) n (λ j k l. h j (omega arith) (omega arith)))
+
+pub upFrom-values : {A : Type 0} (f : ℕ → A) (i n : ℕ) → length (map f (upFrom i n)) ≡ n
+upFrom-values f i n = length-map (upFrom i n) f ∙ upFrom-length i n
 
 -- what the least number is that passes a test
 abbrev pub Least : (ℕ → Bool) → ℕ → ℕ → Option ℕ → Type 0

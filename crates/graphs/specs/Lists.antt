@@ -2,12 +2,17 @@
 -- Assumes nothing.
 use Prim.Native.Nat.{ℕ, zero, suc, pred, _<_}
 use mathlib.Core.Bool.{Bool, true, false, _&&_, cond}
-use mathlib.Core.List.{List, [], _∷_, map, flatMap}
+use mathlib.Core.List.{List, [], _∷_, map, flatMap, _++_}
 use mathlib.Core.Logic.{_⊎_}
 use mathlib.Core.Option.{Option, none, some}
 use mathlib.Core.Path.{_≡_}
 use lib.Dec.{eqb}
 use lib.ListN.{getD}
+
+-- the nodes that k links, followed back from node c, lead through
+abbrev pub follow : (ℕ → ℕ) → ℕ → ℕ → List ℕ
+follow back zero c = c ∷ []
+follow back (suc k) c = follow back k (back c) ++ (c ∷ [])
 
 -- the i-th entry, counted from 1
 abbrev pub item : List ℕ → ℕ → ℕ
@@ -45,11 +50,6 @@ module _ {A : Type 0} where
 -- all f x y, row after row
 abbrev pub table : {A B C : Type 0} → (A → B → C) → List A → List B → List C
 table f xs ys = flatMap (λ x. map (f x) ys) xs
-
--- the least of i, i + 1, .. , i + n - 1 that passes the test
-abbrev pub least : (ℕ → Bool) → ℕ → ℕ → Option ℕ
-least p i zero = none
-least p i (suc n) = cond (p i) (some i) (least p (suc i) n)
 
 -- the first list stands before the second in dictionary order
 abbrev pub Dictionary : List ℕ → List ℕ → Type 0

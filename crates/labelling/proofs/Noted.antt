@@ -9,7 +9,8 @@ use lib.Seq.{take-suc}
 use Rattle.lists.specs.Arrays.{padded}
 use Rattle.lists.proofs.Arrays.{padded-length, padded-zeros, padded-take, padded-more}
 use Rattle.graphs.specs.Lists.{upFrom}
-use Rattle.classes.specs.Classes.{noted, notes, labels, position}
+use Rattle.classes.specs.Classes.{noted, labels, position}
+use Rattle.classes.specs.Contents.{notes}
 use Rattle.classes.proofs.Labels.{noted-old, noted-new, position-le}
 use Rattle.classes.proofs.Legal.{notes-le, noted-length}
 use Rattle.labelling.specs.declared.Seen.{Seen}

@@ -15,7 +15,8 @@ use Rattle.lists.specs.Arrays.{padded}
 use Rattle.lists.specs.Searches.{firstFrom}
 use Rattle.lists.proofs.Arrays.{padded-more}
 use Rattle.graphs.specs.Lists.{eqList}
-use Rattle.classes.specs.Classes.{position, noted, labels, notes, freshFrom, fresh, identifier, identifiers}
+use Rattle.classes.specs.Classes.{position, noted, labels}
+use Rattle.classes.specs.Contents.{notes, freshFrom, fresh, identifier, identifiers}
 use Rattle.classes.proofs.Legal.{notes-le, labels-append, labels-length}
 use Rattle.classes.proofs.Identifiers.{identifier-old, identifier-new, identifiers-length}
 use Rattle.labelling.specs.declared.Seen.{Seen}

@@ -4,7 +4,8 @@ use Prim.Native.Nat.{ℕ, _≤_}
 use mathlib.Core.List.{List}
 use mathlib.Core.Path.{_≡_}
 use lib.ListN.{length, take}
-use Rattle.classes.specs.Classes.{labels, notes}
+use Rattle.classes.specs.Classes.{labels}
+use Rattle.classes.specs.Contents.{notes}
 use Rattle.lists.specs.Arrays.{padded}
 use Rattle.labelling.specs.declared.Seen.{Seen}
 use Rattle.labelling.specs.declared.Labelled.{Labelled}

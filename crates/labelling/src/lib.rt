@@ -5,7 +5,8 @@ ghost use mathlib.Core.List.{[], _∷_, _++_};
 ghost use Prim.Native.Nat.{ℕ, _<_, _≤_};
 ghost use lib.ListN.{length, getD, take};
 ghost use Rattle.graphs.specs.Lists.{eqList};
-ghost use Rattle.classes.specs.Classes.{position, noted, fresh, identifier, identifiers};
+ghost use Rattle.classes.specs.Classes.{position, noted};
+ghost use Rattle.classes.specs.Contents.{fresh, identifier, identifiers};
 ghost use Rattle.lists.specs.Arrays.{padded};
 ghost use Rattle.labelling.specs.Noted.{known, seenOf, Tidy, labelled};
 

@@ -1,16 +1,17 @@
 -- Lists with zeros behind, lists written to a buffer, and rows that a loop fills.
 -- Assumes nothing.
-use Prim.Native.Nat.{ℕ, zero, suc, _+_, _-_, _≤_, _<_}
+use Prim.Native.Nat.{ℕ, zero, suc, _+_, _*_, _-_, _≤_, _<_}
 use mathlib.Core.List.{List, [], _∷_, _++_, map, map-append, List·Memᴰ, List·Memᴰ·head, List·Memᴰ·tail}
-use mathlib.Core.Logic.{_⊎_, inl, inr, ⊎-elim, by-cases}
+use mathlib.Core.Logic.{_≢_, _⊎_, inl, inr, ⊎-elim, by-cases}
 use mathlib.Core.Path.{_≡_, refl, sym, ap, ap₂, _∙_}
 use native.Mathlib.Decide.{ℕ-discrete, decLt}
-use native.Mathlib.Nat.{zero-add}
+use native.Mathlib.Nat.{zero-add, mul-le-mul-left}
 use native.Mathlib.Numerals.{add-one}
 use native.Mathlib.Omega.{arith}
-use lib.ListN.{length, getD, take, drop, set, replicate, length-set, length-map, length-append, length-take, length-drop, List·getD-append, List·getD-eq-default}
-use lib.Seq.{getD-set-same, getD-set-other, getD-take, take-append-seam}
-use Rattle.lists.specs.Arrays.{padded, written, Begins, filled}
+use lib.ListN.{length, getD, take, drop, set, replicate, getD-replicate, length-replicate, length-set, length-map, length-append, length-take, length-drop, List·getD-append, List·getD-eq-default}
+use lib.Seq.{paste, take-length, getD-set-same, getD-set-other, getD-take, getD-drop, take-append-seam, drop-at, ext-getD}
+use Rattle.lists.specs.Arrays.{padded, written, Kept}
+use Rattle.lists.specs.Filling.{Begins, filled}
 
 -- Zeros behind
 
@@ -90,11 +91,28 @@ written-begins xs buffer = take-append-seam xs (drop (length xs) buffer)
 pub written-length : (xs buffer : List ℕ) → length xs ≤ length buffer → length (written xs buffer) ≡ length buffer
 written-length xs buffer h = omega (arith, length-append xs (drop (length xs) buffer), length-drop (length xs) buffer)
 
+pub paste-front : (xs buffer : List ℕ) → paste buffer 0 xs (length xs) ≡ written xs buffer
+paste-front xs buffer = let z : 0 + length xs ≡ length xs = omega arith in rw (z, take-length xs)
+
 pub begins-entry : (xs buffer : List ℕ) (i : ℕ) → Begins xs buffer → i < length xs → getD buffer i 0 ≡ getD xs i 0
 begins-entry xs buffer i b h = sym (getD-take (length xs) buffer i 0 h) ∙ ap (λ l. getD l i 0) b
 
 pub begins-length : (xs buffer : List ℕ) → Begins xs buffer → length xs ≤ length buffer
 begins-length xs buffer b = omega (arith, length-take (length xs) buffer, ap (λ l. length l) b)
+
+-- What is kept behind the front
+
+pub front-kept : (xs before : List ℕ) (n : ℕ) → length xs ≡ n → n ≤ length before → Kept n before (xs ++ drop n before)
+front-kept xs before n e h = (omega (arith, length-append xs (drop n before), length-drop n before), drop-at xs (drop n before) n e)
+
+-- the first n entries and what is kept determine a buffer
+pub kept-one : (n : ℕ) (before xs ys : List ℕ) → Kept n before xs → Kept n before ys → ((i : ℕ) → i < n → getD xs i 0 ≡ getD ys i 0) → xs ≡ ys
+kept-one n before xs ys (l, k) (m, j) f =
+    ext-getD 0 xs ys (l ∙ sym m) (λ i h.
+    by-cases (decLt i n) (f i) (λ past.
+    let e : n + (i - n) ≡ i = omega arith in
+    let behind : getD (drop n xs) (i - n) 0 ≡ getD (drop n ys) (i - n) 0 = ap (λ l. getD l (i - n) 0) (k ∙ sym j) in
+    ap (λ x. getD xs x 0) (sym e) ∙ sym (getD-drop n xs (i - n) 0) ∙ behind ∙ getD-drop n ys (i - n) 0 ∙ ap (λ x. getD ys x 0) e))
 
 -- A filled row
 
@@ -117,6 +135,28 @@ filled-at xs to f zero i h l = absurd (omega arith)
 filled-at xs to f (suc n) i h l = by-cases (ℕ-discrete i n)
     (λ e. rw e (getD-set-same (filled xs to f n) (to + n) (f n) 0 (omega (arith, length-filled xs to f n))))
     (λ d. getD-set-other (filled xs to f n) (to + n) (to + i) (f n) 0 (λ e. d (omega arith)) ∙ filled-at xs to f n i (omega arith) (omega arith))
+
+-- a list of rows of w numbers, of which row k is filled: the others are kept
+pub filled-kept : (xs : List ℕ) (w k : ℕ) (f : ℕ → ℕ) (i j : ℕ) → i ≢ k → j < w → getD (filled xs (w * k) f w) (w * i + j) 0 ≡ getD xs (w * i + j) 0
+filled-kept xs w k f i j d h =
+    filled-out xs (w * k) f w (w * i + j)
+    (by-cases (decLt i k) (λ l. inl (omega (arith, mul-le-mul-left w l))) (λ l. let m : k < i = omega arith in inr (omega (arith, mul-le-mul-left w m))))
+
+-- what holds of every number that was there and of every number that is written
+set-each : (P : ℕ → Type 0) (xs : List ℕ) (i v : ℕ) → P v → ((j : ℕ) → P (getD xs j 0)) → (j : ℕ) → P (getD (set xs i v) j 0)
+set-each P [] i v h e j = e j
+set-each P (x ∷ xs) zero v h e zero = h
+set-each P (x ∷ xs) zero v h e (suc j) = e (suc j)
+set-each P (x ∷ xs) (suc i) v h e zero = e zero
+set-each P (x ∷ xs) (suc i) v h e (suc j) = set-each P xs i v h (λ k. e (suc k)) j
+
+pub filled-each : (P : ℕ → Type 0) (xs : List ℕ) (to : ℕ) (f : ℕ → ℕ) (n : ℕ) → ((i : ℕ) → i < n → P (f i)) → ((j : ℕ) → P (getD xs j 0)) → (j : ℕ) → P (getD (filled xs to f n) j 0)
+unfolding filled
+filled-each P xs to f zero h e = e
+filled-each P xs to f (suc n) h e = set-each P (filled xs to f n) (to + n) (f n) (h n (omega arith)) (filled-each P xs to f n (λ i l. h i (omega arith)) e)
+
+pub zeros-at : (n j : ℕ) → _≡_ {A = ℕ} (getD (replicate n 0) j 0) 0
+zeros-at n j = by-cases (decLt j n) (getD-replicate n j 0 0) (λ l. List·getD-eq-default (replicate n 0) 0 {n = j} (omega (arith, length-replicate {A = ℕ} n 0)))
 
 -- what fills the row may be given by another function that agrees
 pub filled-agree : (xs : List ℕ) (to : ℕ) (f g : ℕ → ℕ) (n : ℕ) → ((i : ℕ) → i < n → f i ≡ g i) → filled xs to f n ≡ filled xs to g n

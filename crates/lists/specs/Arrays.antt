@@ -1,9 +1,9 @@
 -- How lists stand in arrays and in lent buffers, so that a contract determines each whole.
 -- Assumes nothing.
-use Prim.Native.Nat.{ℕ, zero, suc, _+_}
+use Prim.Native.Nat.{ℕ, zero, suc}
 use mathlib.Core.List.{List, [], _∷_, _++_}
 use mathlib.Core.Path.{_≡_}
-use lib.ListN.{length, take, drop, set}
+use lib.ListN.{length, drop}
 
 -- the first n entries, with zeros where there are fewer
 unfoldable pub padded : ℕ → List ℕ → List ℕ
@@ -15,11 +15,6 @@ padded (suc n) (x ∷ xs) = x ∷ padded n xs
 abbrev pub written : List ℕ → List ℕ → List ℕ
 written xs buffer = xs ++ drop (length xs) buffer
 
--- a buffer has the list at its front
-abbrev pub Begins : List ℕ → List ℕ → Type 0
-Begins xs buffer = take (length xs) buffer ≡ xs
-
--- the list xs, with f 0, .., f (n - 1) from place to on
-unfoldable pub filled : List ℕ → ℕ → (ℕ → ℕ) → ℕ → List ℕ
-filled xs to f zero = xs
-filled xs to f (suc n) = set (filled xs to f n) (to + n) (f n)
+-- from place n on a buffer is as it was
+abbrev pub Kept : ℕ → (before after : List ℕ) → Type 0
+Kept n before after = (length after ≡ length before) × (drop n after ≡ drop n before)

@@ -1,3 +1,4 @@
 -- What contracts say of arrays, of buffers and of searches.
 pub mod Arrays
+pub mod Filling
 pub mod Searches

@@ -1,30 +1,20 @@
 -- Within document 01's limits there are enough identifiers up to 14.
 -- Assumes nothing.
-use Prim.Native.Nat.{ℕ, zero, suc, _+_, _≤_, pred}
-use mathlib.Core.Bool.{Bool}
+use Prim.Native.Nat.{ℕ, _+_, _≤_, pred}
 use mathlib.Core.List.{List, [], _∷_, map, List·Memᴰ, List·Memᴰ·head, List·Memᴰ·tail, Memᴰ·of-map}
 use mathlib.Core.Path.{refl, subst}
 use native.Mathlib.Omega.{arith}
 use lib.Dec.{T, leb, leb→le, le→leb, ltb, ltb→lt}
 use lib.Ieee.Fits.{and-i, and-l, and-r}
-use lib.ListN.{length, getD, length-map}
+use lib.ListN.{length, length-map}
 use Rattle.graphs.specs.Lists.{allOf}
-use Rattle.graphs.proofs.Lists.{and-elim, allOf-mem}
+use Rattle.graphs.proofs.Lists.{and-elim, allOf-mem, all-intro, getD-le}
 use Rattle.classes.specs.Renaming.{rising}
 use Rattle.automata.specs.Automaton.{Transition, Automaton, arity}
 use Rattle.automata.specs.WellFormed.{wellFormed, limited, inside, constantCount, fitsTerm, fitsAssignment, fitsTransition}
 use Rattle.automata.proofs.Equivariance.{inside→}
 use Rattle.automata.proofs.ClassBisimulation.{wf-transition}
 use Rattle.moves.specs.Moves.{roomyFor, roomy}
-
-all-intro : {A : Type 0} (p : A → Bool) (xs : List A) → ((x : A) → List·Memᴰ x xs → T (p x)) → T (allOf p xs)
-all-intro p [] h = tt
-all-intro p (x ∷ xs) h = and-i (p x) (allOf p xs) (h x (List·Memᴰ·head refl)) (all-intro p xs (λ y m. h y (List·Memᴰ·tail m)))
-
-getD-le : (n : ℕ) (xs : List ℕ) (i : ℕ) → T (allOf (λ x. leb x n) xs) → getD xs i 0 ≤ n
-getD-le n [] i t = omega arith
-getD-le n (x ∷ xs) zero t = leb→le x n (and-l (leb x n) (allOf (λ x. leb x n) xs) t)
-getD-le n (x ∷ xs) (suc i) t = getD-le n xs i (and-r (leb x n) (allOf (λ x. leb x n) xs) t)
 
 -- numbers that rise up to r
 rising-room : (r x : ℕ) (xs : List ℕ) → T (rising (x ∷ xs)) → ((y : ℕ) → List·Memᴰ y (x ∷ xs) → y ≤ r) → x + length xs ≤ r

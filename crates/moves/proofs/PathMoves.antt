@@ -16,20 +16,23 @@ use Rattle.graphs.specs.Search.{Walk, end, steps, nodes, IsWalk, Answer}
 use Rattle.graphs.specs.Search.Walk.{start, _▸_}
 use Rattle.graphs.proofs.Search.{search-nearest}
 use Rattle.graphs.proofs.Lists.{getD-map}
-use Rattle.classes.specs.Classes.{Legal, contents}
+use Rattle.classes.specs.Contents.{Legal, contents}
 use Rattle.classes.proofs.Contents.{contents-labels, contents-length}
 use Rattle.classes.proofs.Identifiers.{identifiers-every}
 use Rattle.classes.proofs.Catalogue.{lists-mem}
 use Rattle.automata.specs.Automaton.{Automaton, meets}
 use Rattle.automata.specs.Runs.{State, Move, isStep, after, permitted, initial, follows, final, Target, hits}
 use Rattle.automata.specs.WellFormed.{wellFormed, Proper, constantCount, fitsTarget}
-use Rattle.automata.specs.Configurations.{Configuration, marks, conf, stepConf, configuration, configurations, number, numbered, rows, starts, startConf, targets, Listed, Related}
+use Rattle.automata.specs.Configurations.{Configuration, conf, configuration, number, Related}
+use Rattle.automata.specs.ConfigurationGraph.{marks, stepConf, configurations, numbered, rows, starts, startConf, targets, Listed}
 use Rattle.automata.specs.Answers.{nearestTo, Verdict}
 use Rattle.automata.proofs.Numbering.{configuration-path, number-numbered, rows-length}
 use Rattle.automata.proofs.ClassBisimulation.{wf-constants, wf-start, step-proper, permitted-agrees, target-agrees}
 use Rattle.automata.proofs.Reachability.{run-proper, decides}
-use Rattle.moves.specs.Moves.{Pooled, smallest, roomy}
-use Rattle.moves.specs.PathMoves.{through, states, EachSmallest, Trail, startContents, movesAlong, RunAlong, origin, onward, walkContents, walkMoves, RunAnswer}
+use Rattle.moves.specs.Moves.{smallest, roomy}
+use Rattle.moves.specs.Taken.{Pooled}
+use Rattle.moves.specs.PathMoves.{through, EachSmallest, Trail, startContents, movesAlong, RunAlong, origin, onward, walkContents, walkMoves, RunAnswer}
+use Rattle.moves.specs.Taken.{states}
 use Rattle.moves.proofs.Smallest.{smallest-found}
 
 -- the configuration that a path ends in

@@ -11,7 +11,8 @@ use lib.ListN.{length, length-map}
 use Rattle.graphs.specs.Lists.{item, upFrom, eqList, allOf, AtMost}
 use Rattle.graphs.proofs.Lists.{allOf-mem, eqList→eq, eqList-refl, append-inj, getD-mem, upFrom-length}
 use Rattle.classes.specs.Renaming.{Renaming, rename, Distinct}
-use Rattle.classes.specs.Classes.{labels, notes, identifiers, Legal}
+use Rattle.classes.specs.Classes.{labels}
+use Rattle.classes.specs.Contents.{notes, identifiers, Legal}
 use Rattle.classes.proofs.Renamings.{compose, inverse, rename-back}
 use Rattle.classes.proofs.Labels.{labels-renamed, same-class}
 use Rattle.classes.proofs.Legal.{notes-le, labels-append, labels-length, notes-length, labels-legal, legal-labels, to-labels}
@@ -19,10 +20,11 @@ use Rattle.automata.specs.Automaton.{Term, Assignment, Transition, Automaton, a
 use Rattle.automata.specs.Automaton.Term.{register, parameter, constant}
 use Rattle.automata.specs.Runs.{makes}
 use Rattle.automata.specs.WellFormed.{inside, constantCount, fitsTerm, fitsAssignment, fitsTransition}
-use Rattle.automata.specs.Configurations.{marks, written, held}
+use Rattle.automata.specs.ConfigurationGraph.{marks, written, held}
 use Rattle.automata.proofs.Equivariance.{inside→, guard-agrees, written-renamed, held-renamed}
 use Rattle.automata.proofs.StepClasses.{makes-few, makes-wide, makes-guard, makes-held, makes-intro, fits-assigns, fits-guard}
-use Rattle.moves.specs.Moves.{Pooled, passes, renewed, roomyFor}
+use Rattle.moves.specs.Moves.{passes, renewed, roomyFor}
+use Rattle.moves.specs.Taken.{Pooled}
 use Rattle.classes.proofs.Identifiers.{notes-distinct, notes-renamed, notes-every, identifiers-length, identifiers-labels, identifiers-least, identifiers-every}
 
 -- two pairs of lists with the same labels, over constants and over their marks: a renaming takes the marks to the constants and one pair to the other

@@ -14,16 +14,19 @@ use lib.ListN.{length}
 use Rattle.graphs.specs.Lists.{allOf, AtMost}
 use Rattle.graphs.proofs.Lists.{and-elim, allOf-mem, getD-mem}
 use Rattle.classes.specs.Renaming.{rising}
-use Rattle.classes.specs.Classes.{labels, notes, identifiers, Legal}
+use Rattle.classes.specs.Classes.{labels}
+use Rattle.classes.specs.Contents.{notes, identifiers, Legal}
 use Rattle.classes.proofs.Catalogue.{lists-mem}
 use Rattle.automata.specs.Automaton.{Transition, Automaton, arity}
 use Rattle.automata.specs.Runs.{State, Move, nowhere, transitionOf, makes, isStep, after}
 use Rattle.automata.specs.WellFormed.{wellFormed, Proper, constantCount}
-use Rattle.automata.specs.Configurations.{Configuration, conf, stepConf, Listed}
+use Rattle.automata.specs.Configurations.{Configuration, conf}
+use Rattle.automata.specs.ConfigurationGraph.{stepConf, Listed}
 use Rattle.automata.proofs.StepClasses.{makes-few}
 use Rattle.automata.proofs.Numbering.{configuration-path}
 use Rattle.automata.proofs.ClassBisimulation.{wf-constants, wf-transition, move-makes, move-from, step-back}
-use Rattle.moves.specs.Moves.{Leads, spelled, Pooled, Smallest, MoveAnswer, pool, tuples, passes, renewed, joins, parametersOf, moveWith, smallestFrom, smallest, roomyFor, roomy}
+use Rattle.moves.specs.Moves.{MoveAnswer, pool, tuples, passes, renewed, joins, parametersOf, moveWith, smallestFrom, smallest, roomyFor, roomy}
+use Rattle.moves.specs.Taken.{Leads, spelled, Pooled, Smallest}
 use Rattle.graphs.proofs.Dictionary.{atMost-antisym, atMost-trans, atMost-append, atMost-cons}
 use Rattle.moves.proofs.Tuples.{pool-mem, mem-pool, mem-tuples, tuples-mem, tuples-ascending, FirstOf, first-of}
 use Rattle.moves.proofs.Renewed.{renewed-makes, makes-passes, lowered, lowered-length, lowered-least, lowered-passes, lowered-pooled, renewed-pooled}

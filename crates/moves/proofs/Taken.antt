@@ -15,20 +15,25 @@ use Rattle.graphs.specs.Search.Walk.{start, _▸_}
 use Rattle.graphs.proofs.Lists.{and-elim, append-inj}
 use Rattle.graphs.proofs.Dictionary.{atMost-antisym}
 use Rattle.graphs.proofs.Search.{search-nearest}
-use Rattle.classes.specs.Classes.{labels, GivenBack, Legal}
+use Rattle.classes.specs.Classes.{labels, GivenBack}
+use Rattle.classes.specs.Contents.{Legal}
 use Rattle.classes.proofs.Catalogue.{lists-mem}
 use Rattle.classes.proofs.GivenBack.{contents-given}
 use Rattle.classes.proofs.OneGiven.{one-given}
 use Rattle.automata.specs.Automaton.{Automaton, arity}
-use Rattle.automata.specs.Runs.{State, Move, transitionOf, isStep, after, permitted, initial, follows, final, Target, Reaches, Shortest}
+use Rattle.automata.specs.Runs.{State, Move, transitionOf, isStep, after, permitted, initial, follows, final, isRun, Target, Reaches}
 use Rattle.automata.specs.WellFormed.{wellFormed, fitsTarget, Proper, constantCount}
-use Rattle.automata.specs.Configurations.{Configuration, conf, number, numbered, rows, starts, targets, Listed, Related}
+use Rattle.automata.specs.Configurations.{Configuration, conf, number, Related}
+use Rattle.automata.specs.ConfigurationGraph.{numbered, rows, starts, targets, Listed}
 use Rattle.automata.specs.Answers.{nearestTo}
 use Rattle.automata.proofs.Numbering.{numbered-number, rows-length}
 use Rattle.automata.proofs.StepClasses.{makes-few}
+use Rattle.automata.proofs.Reachability.{one-length}
 use Rattle.automata.proofs.ClassBisimulation.{wf-constants, move-makes, step-proper, initial-proper, conf-listed, related-below, forth, target-agrees, start-agrees}
-use Rattle.moves.specs.Moves.{spelled, Smallest, roomy}
-use Rattle.moves.specs.PathMoves.{states, EachSmallest, origin, onward, walkContents, walkMoves, RunAnswer}
+use Rattle.moves.specs.Moves.{roomy}
+use Rattle.moves.specs.Taken.{spelled, Smallest}
+use Rattle.moves.specs.PathMoves.{EachSmallest, origin, onward, walkContents, walkMoves, RunAnswer}
+use Rattle.moves.specs.Taken.{states}
 use Rattle.moves.specs.Taken.{passed, AllSmallest, Taken}
 use Rattle.moves.proofs.PathMoves.{prints}
 
@@ -87,12 +92,9 @@ module _ (a : Automaton) (wf : T (wellFormed a)) where
 
   -- The run that is taken
 
-  pub one-length : (g : Target) (v w : List ℕ) (ms ns : List Move) → Shortest a g v ms → Shortest a g w ns → length ms ≡ length ns
-  one-length g v w ms ns p q = omega (arith, p .least w ns (q .reaches), q .least v ms (p .reaches))
-
   pub one-taken : (n : ℕ) (g : Target) (v w : List ℕ) (ms ns : List Move) → Taken n a g v ms → Taken n a g w ns → (v ≡ w) × (ms ≡ ns)
   one-taken n g v w ms ns p q =
-      let len = one-length g v w ms ns (p .shortest) (q .shortest) in
+      let len = one-length a g v w ms ns (p .shortest) (q .shortest) in
       let numbers : passed a v ms ≡ passed a w ns = atMost-antisym (passed a v ms) (passed a w ns) (p .first w ns (q .shortest .reaches) (sym len)) (q .first v ms (p .shortest .reaches) len) in
       let (ok, _) = and-elim (permitted a v) (follows a (initial a v) ms) (p .shortest .reaches .run) in
       let (ok′, _) = and-elim (permitted a w) (follows a (initial a w) ns) (q .shortest .reaches .run) in
@@ -137,17 +139,23 @@ module _ (a : Automaton) (wf : T (wellFormed a)) where
       let u = walks (after a m) ms (p ▸ j′) (is, subst⁻¹ (Edge (rows a) (end p)) (c .named) edge) (record { proper = c .proper; named = refl }) more in
       record { is = u .is; ends = u .ends; through = u .through ∙ append-assoc (nodes p) (j′ ∷ []) (later (after a m) ms); count = omega (arith, u .count) }
 
-  -- a run that reaches the target, as a walk of as many steps to a node of the target
-  reaching-walk : (g : Target) → T (fitsTarget a g) → (v : List ℕ) (ms : List Move) → Reaches a g v ms
-      → (q : Walk) × IsWalk (rows a) (starts a) q × In (targets a g) (end q) × (nodes q ≡ passed a v ms) × (steps q ≡ length ms)
-  reaching-walk g fits v ms r =
-      let (ok, f) = and-elim (permitted a v) (follows a (initial a v) ms) (r .run) in
+  -- a run, as a walk of as many steps through its configurations
+  pub walk-of : (v : List ℕ) (ms : List Move) → T (isRun a v ms)
+      → (q : Walk) × IsWalk (rows a) (starts a) q × Related a (final a (initial a v) ms) (end q) × (nodes q ≡ passed a v ms) × (steps q ≡ length ms)
+  walk-of v ms r =
+      let (ok, f) = and-elim (permitted a v) (follows a (initial a v) ms) r in
       let s : State = initial a v in
       let b : Related a s (number a (conf a s)) = record { proper = initial-proper a wf v ok; named = refl } in
       let low : number a (conf a s) < length (rows a) = rw (rows-length a) (related-below a wf s (number a (conf a s)) b) in
       let u = walks s ms (start (number a (conf a s))) (low, start-agrees a wf s (number a (conf a s)) b .0 (ok, refl)) b f in
-      let q : Walk = walkOn (start (number a (conf a s))) (later s ms) in
-      (q, u .is, target-agrees a wf g fits (final a s ms) (end q) (u .ends) .0 (r .target), u .through ∙ sym (later-passed s ms), omega (arith, u .count))
+      (walkOn (start (number a (conf a s))) (later s ms), u .is, u .ends, u .through ∙ sym (later-passed s ms), omega (arith, u .count))
+
+  -- a run that reaches the target, as a walk to a node of the target
+  reaching-walk : (g : Target) → T (fitsTarget a g) → (v : List ℕ) (ms : List Move) → Reaches a g v ms
+      → (q : Walk) × IsWalk (rows a) (starts a) q × In (targets a g) (end q) × (nodes q ≡ passed a v ms) × (steps q ≡ length ms)
+  reaching-walk g fits v ms r =
+      let (q, is, ends, through, count) = walk-of v ms (r .run) in
+      (q, is, target-agrees a wf g fits (final a (initial a v) ms) (end q) ends .0 (r .target), through, count)
 
   all-smallest : (n : ℕ) (s : State) (ms : List Move) (ds : List Configuration) → EachSmallest n a s ms ds → AllSmallest n a s ms
   all-smallest n s [] [] e = tt

@@ -13,7 +13,7 @@ use lib.ListN.{length}
 use Rattle.graphs.specs.Lists.{upFrom, select, first, table, Dictionary, AtMost}
 use Rattle.graphs.proofs.Lists.{and-elim, select-mem, mem-select, mem-flatMap, flatMap-mem, mem-upFrom, upFrom-mem}
 use Rattle.classes.specs.Renaming.{rising}
-use Rattle.classes.specs.Classes.{Ascending}
+use Rattle.classes.specs.Contents.{Ascending}
 use Rattle.classes.proofs.Catalogue.{ascending-append, ascending-cons}
 use Rattle.moves.specs.Moves.{pool, tuples}
 

@@ -1,48 +1,25 @@
--- The smallest move from a state to a configuration (document 01, "Reaching and questions").
+-- The smallest move from a state to a configuration (document 01, "Reaching and questions"): how it is found.
 -- Assumes nothing.
-use Prim.Native.Nat.{ℕ, zero, suc, _+_, _<_}
+use Prim.Native.Nat.{ℕ, zero, suc, _+_}
 use mathlib.Core.Bool.{Bool, _&&_}
-use mathlib.Core.List.{List, [], _∷_, _++_, map, List·Memᴰ}
-use mathlib.Core.Logic.{_⊎_}
+use mathlib.Core.List.{List, [], _∷_, _++_}
 use mathlib.Core.Option.{Option, none, some}
-use mathlib.Core.Path.{_≡_}
-use lib.Dec.{T, eqb, leb}
+use lib.Dec.{eqb, leb}
 use lib.ListN.{length}
-use Rattle.graphs.specs.Lists.{upFrom, eqList, allOf, select, first, table, AtMost}
-use Rattle.classes.specs.Classes.{labels, notes, identifiers}
+use Rattle.graphs.specs.Lists.{upFrom, eqList, allOf, select, first, table}
+use Rattle.classes.specs.Classes.{labels}
+use Rattle.classes.specs.Contents.{notes, identifiers}
 use Rattle.automata.specs.Automaton.{Transition, Automaton, arity, meets}
-use Rattle.automata.specs.Runs.{State, Move, transitionOf, isStep, after}
+use Rattle.automata.specs.Runs.{State, Move, transitionOf}
 use Rattle.automata.specs.WellFormed.{constantCount}
-use Rattle.automata.specs.Configurations.{Configuration, marks, written, held, conf}
-
--- What is to be found
-
--- the move is a step from the state s, and it ends in the configuration d
-pub record Leads (a : Automaton) (s : State) (d : Configuration) (m : Move) : Type 0 where
-  pub step : T (isStep a s m)
-  pub ends : conf a (after a m) ≡ d
-
--- a move as one list: the transition's number, then the parameters followed by the new contents
-abbrev pub spelled : Move → List ℕ
-spelled m = m .transition ∷ (m .parameters ++ m .valuation)
-
--- every identifier of the list is a constant or less than n
-abbrev pub Pooled : ℕ → List ℕ → List ℕ → Type 0
-Pooled n cs xs = (x : ℕ) → List·Memᴰ x xs → List·Memᴰ x cs ⊎ (x < n)
-
--- of all moves from s to d, with whatever natural numbers, this is the smallest; and its identifiers are constants or less than n
-pub record Smallest (n : ℕ) (a : Automaton) (s : State) (d : Configuration) (m : Move) : Type 0 where
-  pub leads : Leads a s d m
-  pub least : (m′ : Move) → Leads a s d m′ → AtMost (spelled m) (spelled m′)
-  pub parameters : Pooled n (a .constants) (m .parameters)
-  pub valuation : Pooled n (a .constants) (m .valuation)
+use Rattle.automata.specs.Configurations.{Configuration}
+use Rattle.automata.specs.ConfigurationGraph.{marks, written, held}
+use Rattle.moves.specs.Taken.{Leads, Smallest}
 
 -- what an answer says: no move leads from s to d, or this is the smallest
 abbrev pub MoveAnswer : ℕ → Automaton → State → Configuration → Option Move → Type 0
 MoveAnswer n a s d none = (m : Move) → Leads a s d m → ⊥
 MoveAnswer n a s d (some m) = Smallest n a s d m
-
--- How it is found
 
 -- 0 to n - 1 and the constants that are larger, rising
 abbrev pub pool : ℕ → List ℕ → List ℕ

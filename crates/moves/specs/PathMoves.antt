@@ -8,22 +8,19 @@ use lib.Dec.{T}
 use lib.ListN.{length}
 use Rattle.graphs.specs.Search.{Walk, steps, nodes}
 use Rattle.graphs.specs.Search.Walk.{start, _▸_}
-use Rattle.classes.specs.Classes.{identifiers, contents}
+use Rattle.classes.specs.Contents.{identifiers, contents}
 use Rattle.automata.specs.Automaton.{Automaton}
 use Rattle.automata.specs.Runs.{State, Move, after, initial, isRun, Target, Shortest, Never}
-use Rattle.automata.specs.WellFormed.{constantCount}
-use Rattle.automata.specs.Configurations.{Configuration, conf, stepConf, Listed, number, numbered}
-use Rattle.moves.specs.Moves.{Pooled, Smallest, smallest}
+use Rattle.automata.specs.Configurations.{Configuration, conf, number}
+use Rattle.automata.specs.ConfigurationGraph.{stepConf, Listed, numbered}
+use Rattle.moves.specs.Moves.{smallest}
+use Rattle.moves.specs.Taken.{Pooled, Smallest}
+use Rattle.moves.specs.Taken.{states}
 
 -- from the state s through these configurations, at each step by the smallest move; it stops where there is none
 abbrev pub through : ℕ → Automaton → State → List Configuration → List Move
 through n a s [] = []
 through n a s (d ∷ ds) = elim (smallest n a s d) [ none ↦ [] | some m ↦ m ∷ through n a (after a m) ds ]
-
--- the states that the moves lead through
-abbrev pub states : Automaton → State → List Move → List State
-states a s [] = s ∷ []
-states a s (m ∷ ms) = s ∷ states a (after a m) ms
 
 -- the moves lead through these configurations, each by the smallest move
 abbrev pub EachSmallest : ℕ → Automaton → State → List Move → List Configuration → Type 0

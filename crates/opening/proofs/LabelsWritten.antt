@@ -6,7 +6,7 @@ use mathlib.Core.Path.{_≡_, ap, _∙_}
 use native.Mathlib.Omega.{arith}
 use lib.ListN.{length, getD}
 use Rattle.classes.specs.Classes.{lists}
-use Rattle.forms.specs.TableForm.{automatonOf}
+use Rattle.forms.specs.FormAutomaton.{automatonOf}
 use Rattle.forms.specs.Readable.{Readable}
 use Rattle.automata.specs.WellFormed.{constantCount}
 use Rattle.forms.proofs.Forms.{form-limits}

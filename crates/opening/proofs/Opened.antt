@@ -11,7 +11,7 @@ use Rattle.refusals.specs.Judged.{Judged, refusal, _then_, require}
 use Rattle.refusals.specs.Judged.Judged.{accepted, refused}
 use Rattle.refusals.proofs.Composed.{then-accepted, required, passes, fails}
 use Rattle.automata.specs.Runs.{permitted}
-use Rattle.forms.specs.TableForm.{automatonOf}
+use Rattle.forms.specs.FormAutomaton.{automatonOf}
 use Rattle.forms.specs.Readable.{Readable}
 use Rattle.reader.specs.Table.{readTable}
 use Rattle.reader.specs.TableReply.{replyOf, formOf}
@@ -21,7 +21,8 @@ use Rattle.reader.proofs.LegalForms.{legal}
 use Rattle.reader.proofs.WellRead.{table-well-formed}
 use Rattle.conditions.specs.Startable.{startable}
 use Rattle.conditions.proofs.StartsExact.{startable-exact}
-use Rattle.opening.specs.Opening.{withStart, openTable, labelsOf}
+use Rattle.opening.specs.Opening.{withStart, openTable}
+use Rattle.opening.specs.OpenedLabels.{labelsOf}
 
 -- a table that is read has a readable form
 pub read-readable : (s t : List ℕ) → readTable s ≡ accepted t → Readable t

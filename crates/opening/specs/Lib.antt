@@ -1,2 +1,3 @@
 -- What the contracts of opening a table cite.
 pub mod Opening
+pub mod OpenedLabels

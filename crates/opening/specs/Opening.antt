@@ -2,14 +2,10 @@
 -- Assumes nothing.
 use Prim.Native.Nat.{ℕ}
 use mathlib.Core.List.{List}
-use lib.ListN.{replicate}
-use Rattle.refusals.specs.Judged.{Judged, refusal, _then_, require, left}
+use Rattle.refusals.specs.Judged.{Judged, refusal, _then_, require}
 use Rattle.refusals.specs.Judged.Judged.{accepted}
-use Rattle.automata.specs.WellFormed.{constantCount}
-use Rattle.forms.specs.TableForm.{automatonOf}
+use Rattle.forms.specs.FormAutomaton.{automatonOf}
 use Rattle.reader.specs.Table.{readTable}
-use Rattle.lists.specs.Arrays.{written}
-use Rattle.catalogue.specs.Serving.{labelRows}
 use Rattle.conditions.specs.Startable.{startable}
 
 -- a table that was read has a start, or is refused by number 7 at line 0
@@ -19,11 +15,3 @@ withStart t = require (startable (automatonOf t)) (refusal 7 1 0) then (λ ok. a
 -- the form of a table that can be used, or its refusal
 unfoldable pub openTable : List ℕ → Judged (List ℕ)
 openTable s = readTable s then withStart
-
--- the labels of all classes of a table, five to a class, in an array of 3,370
-abbrev pub classLabels : List ℕ → List ℕ
-classLabels t = written (labelRows (automatonOf t .registers) (constantCount (automatonOf t))) (replicate 3370 0)
-
--- a refusal leaves the labels as they were
-abbrev pub labelsOf : Judged (List ℕ) → List ℕ → List ℕ
-labelsOf j cat = left j classLabels cat

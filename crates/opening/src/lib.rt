@@ -1,16 +1,20 @@
 // Opening a table: it is read, the labels of its classes are written out once, and a table without a start is refused.
 
 ghost use mathlib.Core.Path.{_≡_};
-ghost use Prim.Native.Nat.{_≤_};
+ghost use mathlib.Core.List.{List};
+ghost use Prim.Native.Nat.{ℕ, _≤_};
 ghost use lib.ListN.{length};
+ghost use Rattle.refusals.specs.Judged.{Judged};
+ghost use Rattle.automata.specs.Automaton.{Automaton};
 ghost use Rattle.automata.specs.WellFormed.{constantCount};
-ghost use Rattle.forms.specs.TableForm.{automatonOf};
+ghost use Rattle.forms.specs.FormAutomaton.{automatonOf};
 ghost use Rattle.reader.specs.TableReply.{replyOf, formOf};
 ghost use Rattle.forms.specs.Readable.{Readable};
 ghost use Rattle.lists.specs.Arrays.{written};
 ghost use Rattle.catalogue.specs.Serving.{labelRows};
 ghost use Rattle.conditions.specs.Startable.{startable};
-ghost use Rattle.opening.specs.Opening.{openTable, labelsOf};
+ghost use Rattle.opening.specs.Opening.{openTable};
+ghost use Rattle.opening.specs.OpenedLabels.{labelsOf};
 use forms::Form;
 use reader::Reply;
 use refusals::Refusal;
@@ -29,7 +33,10 @@ pub fn fill_classes(registers: usize, constants: usize, flat: &mut [u8])
 // Writes the labels of a table's classes, and says whether one of them is a start.
 pub fn classes_start(form: &[u32], flat: &mut [u8]) -> bool
     requires { ⌜ Readable (now form) × (length (now flat) ≡ 3370) ⌝ }
-    ensures { λ r. ⌜ (r ≡ startable (automatonOf (now (form .entry)))) × (now (flat .exit) ≡ written (labelRows (automatonOf (now (form .entry)) .registers) (constantCount (automatonOf (now (form .entry))))) (now (flat .entry))) ⌝ }
+    ensures { λ r.
+        let a : Automaton = automatonOf (now (form .entry)) in
+        ⌜ (r ≡ startable a)
+        × (now (flat .exit) ≡ written (labelRows (a .registers) (constantCount a)) (now (flat .entry))) ⌝ }
 {
     let registers = forms::registers(form);
     let constants = forms::constants(form);
@@ -40,7 +47,11 @@ pub fn classes_start(form: &[u32], flat: &mut [u8]) -> bool
 
 // Reads a table to the form and the labels of its classes; a refusal leaves both as they are.
 pub fn open_table(s: &[u8], form: &mut Form, labels: &mut [u8; 3370]) -> Reply
-    ensures { λ r. ⌜ (r ≡ replyOf (openTable (now (s .entry)))) × (now (form .exit) ≡ formOf (openTable (now (s .entry))) (now (form .entry))) × (now (labels .exit) ≡ labelsOf (openTable (now (s .entry))) (now (labels .entry))) ⌝ }
+    ensures { λ r.
+        let t : Judged (List ℕ) = openTable (now (s .entry)) in
+        ⌜ (r ≡ replyOf t)
+        × (now (form .exit) ≡ formOf t (now (form .entry)))
+        × (now (labels .exit) ≡ labelsOf t (now (labels .entry))) ⌝ }
 {
     let mut read = [0u32; forms::LENGTH];
     let reply = reader::read_table(s, &mut read);

@@ -1,5 +1,6 @@
 -- What the proofs of the printouts share.
-pub mod Bytes
-pub mod PrintedBounds
-pub mod Whole
-pub mod Document
+pub mod PutLines
+pub mod MomentSlots
+pub mod Refusals
+pub mod ReadBack
+pub mod PrintoutMeaning

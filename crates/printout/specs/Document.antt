@@ -1,27 +1,74 @@
--- Document 01's printout for a table and a target, line by line. This is what a reader compares with the paper; what is printed is proved equal to it.
+-- Document 01's printouts, line by line, said of what the bytes of the files say, of runs and of formulas. This is what a reader believes.
 -- Assumes nothing.
-use Prim.Native.Nat.{ℕ, suc}
-use mathlib.Core.List.{List, [], _∷_, _++_}
-use mathlib.Core.Option.{Option, none, some}
-use Rattle.graphs.specs.Search.{Walk, steps}
+use Prim.Native.Nat.{ℕ, suc, _<_}
+use mathlib.Core.Bool.{Bool}
+use mathlib.Core.List.{List, [], _∷_, List·Memᴰ}
+use mathlib.Core.Logic.{_↔_}
+use mathlib.Core.Option.{some}
+use mathlib.Core.Path.{_≡_}
+use lib.Dec.{T}
+use lib.ListN.{length}
+use Rattle.refusals.specs.declared.Refusal.{Refusal}
+use Rattle.refusals.specs.Judged.{refusalNumbers}
+use Rattle.refusals.specs.Judged.Judged.{refused}
+use Rattle.columns.specs.Columns.{column}
+use Rattle.fields.specs.Format.{field}
+use Rattle.sets.specs.Members.{population}
+use Rattle.graphs.specs.Formulas.{Formula}
 use Rattle.automata.specs.Automaton.{Automaton}
-use Rattle.automata.specs.Runs.{Move}
-use Rattle.moves.specs.PathMoves.{walkContents, walkMoves}
+use Rattle.automata.specs.Runs.{Move, Target, Never}
+use Rattle.automata.specs.Questions.{Atom, Row, HoldsAtStarts, question}
+use Rattle.moves.specs.Taken.{Taken}
 use Rattle.concretization.specs.RunLines.{momentNumbers}
-use Rattle.witness.specs.Printed.{reachedCount}
-use Rattle.printout.specs.Text.{line}
+use Rattle.writing.specs.Said.{TableFile, TargetFile, QuestionFile}
+use Rattle.claims.specs.Files.{targetFiles, questionFiles}
+use Rattle.claims.specs.Reachable.{RunTo}
+use Rattle.claims.specs.Demand.{FailsWith}
 
--- the moments from k on
-abbrev pub momentsNumbers : Automaton → ℕ → List Move → List (List ℕ)
-momentsNumbers a k [] = []
-momentsNumbers a k (m ∷ ms) = momentNumbers a k m ∷ momentsNumbers a (suc k) ms
+-- Targets
 
--- never, and how many configurations are reached; or reached, the steps and that count, then the start and the moments of the run
-abbrev pub documentLines : Automaton → Option Walk → List (List ℕ)
-documentLines a none = (0 ∷ 0 ∷ reachedCount a ∷ []) ∷ []
-documentLines a (some w) = (1 ∷ steps w ∷ reachedCount a ∷ []) ∷ (0 ∷ 0 ∷ a .start ∷ walkContents a w) ∷ momentsNumbers a 1 (walkMoves 15 a w)
+-- runs of the table reach n configurations
+pub record ReachedCount (a : Automaton) (n : ℕ) : Type 0 where
+  pub reached : ℕ → Bool
+  pub right : (i : ℕ) → i < 10784 → T (reached i) ↔ ((k : ℕ) × RunTo a i k)
+  pub count : n ≡ population reached 10784
 
--- lines, one after another
-abbrev pub inLines : List (List ℕ) → List ℕ
-inLines [] = []
-inLines (vs ∷ vss) = line vs ++ inLines vss
+-- the lines of the moments from number k on
+abbrev pub momentLines : Automaton → ℕ → List Move → List (List ℕ)
+momentLines a k [] = []
+momentLines a k (m ∷ ms) = momentNumbers a k m ∷ momentLines a (suc k) ms
+
+-- the lines for a target x of a table whose runs reach n configurations
+pub data TargetLines (a : Automaton) (x : Target) (n : ℕ) : List (List ℕ) → Type 0 where
+  -- no run reaches it: one line
+  never : Never a x → TargetLines a x n ((0 ∷ 0 ∷ n ∷ []) ∷ [])
+  -- the run that document 01 takes: its steps, its start, its moments
+  reached : (v : List ℕ) (ms : List Move) → Taken 15 a x v ms → TargetLines a x n ((1 ∷ length ms ∷ n ∷ []) ∷ (0 ∷ 0 ∷ a .start ∷ v) ∷ momentLines a 1 ms)
+
+-- Questions
+
+-- the line for a question to a table
+pub data QuestionLines (a : Automaton) (f : Formula Atom) : List (List ℕ) → Type 0 where
+  -- it holds at every permitted start
+  yes : HoldsAtStarts a f → QuestionLines a f ((1 ∷ []) ∷ [])
+  -- the smallest class with which it fails, and the contents given back for it
+  no : (k : ℕ) (v : List ℕ) → FailsWith a f k v → QuestionLines a f ((0 ∷ k ∷ v) ∷ [])
+
+-- The printouts
+
+-- every number of the lines is read back from its six columns
+abbrev pub ReadBack : List (List ℕ) → Type 0
+ReadBack ls = (vs : List ℕ) → List·Memᴰ vs ls → (v : ℕ) → List·Memᴰ v vs → field (column 6 v) ≡ some v
+
+-- the lines for the bytes s of a table and g of a target
+pub record ReachPrintout (s g : List ℕ) (ls : List (List ℕ)) : Type 0 where
+  pub said : (a : Automaton) (x : Target) → TableFile s a → TargetFile a g x → (n : ℕ) × ReachedCount a n × TargetLines a x n ls
+  -- where they say no table and target: 2, number, file and line of the refusal
+  pub unsaid : ((a : Automaton) (x : Target) → TableFile s a → TargetFile a g x → ⊥) → (r : Refusal) × (targetFiles s g ≡ refused r) × (ls ≡ (2 ∷ refusalNumbers r) ∷ [])
+  pub readable : ReadBack ls
+
+-- the same for the bytes q of a question
+pub record AskPrintout (s q : List ℕ) (ls : List (List ℕ)) : Type 0 where
+  pub said : (a : Automaton) (rs : List Row) → TableFile s a → QuestionFile a q rs → QuestionLines a (question rs) ls
+  pub unsaid : ((a : Automaton) (rs : List Row) → TableFile s a → QuestionFile a q rs → ⊥) → (r : Refusal) × (questionFiles s q ≡ refused r) × (ls ≡ (2 ∷ refusalNumbers r) ∷ [])
+  pub readable : ReadBack ls

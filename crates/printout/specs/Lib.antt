@@ -1,4 +1,4 @@
 -- What the contracts of the printouts cite.
-pub mod Text
-pub mod AnswerNumbers
 pub mod Document
+pub mod PrintedLines
+pub mod Text

@@ -1,28 +1,29 @@
--- Lines of numbers as bytes, in document 01's columns. This is what a reader believes.
+-- Lines of numbers in a lent text, and the text that is printed. This is what a reader believes.
 -- Assumes nothing.
-use Prim.Native.Nat.{ℕ, zero, suc, _*_, min}
-use mathlib.Core.List.{List, [], _∷_, _++_}
-use lib.ListN.{getD, take, drop}
-use Rattle.columns.specs.Columns.{columnOf}
+use Prim.Native.Nat.{ℕ, _+_}
+use mathlib.Core.List.{List}
+use mathlib.Core.Path.{_≡_}
+use lib.ListN.{length}
+use lib.Seq.{sets}
+use Rattle.io.specs.Counts.{Counts}
+use Rattle.columns.specs.Columns.{fileBytes}
+use Rattle.claims.specs.Files.{targetFiles, questionFiles}
+use Rattle.printout.specs.Document.{ReachPrintout, AskPrintout}
+use Rattle.printout.specs.PrintedLines.{reachPrinted, askPrinted}
 
--- the six columns of a number
-abbrev pub field : ℕ → List ℕ
-field v = columnOf v 100000 ∷ columnOf v 10000 ∷ columnOf v 1000 ∷ columnOf v 100 ∷ columnOf v 10 ∷ columnOf v 1 ∷ []
+-- the lines stand in a text from byte `at` up to byte `end`; every other byte is as it was
+pub record Put (ls : List (List ℕ)) (at end : ℕ) (before after : List ℕ) : Type 0 where
+  pub ends : end ≡ at + length (fileBytes ls)
+  pub text : after ≡ sets before at (fileBytes ls)
 
--- the columns of numbers, one after another
-unfoldable pub fields : List ℕ → List ℕ
-fields [] = []
-fields (v ∷ vs) = field v ++ fields vs
+-- the printout for the bytes s of a table and g of a target: its lines stand in front of a text, up to byte n, which the text has, and they are document 01's
+pub record ReachText (s g : List ℕ) (n : ℕ) (before after : List ℕ) : Type 0 where
+  pub put : Put (reachPrinted (targetFiles s g)) 0 n before after
+  pub counts : Counts n after
+  pub means : ReachPrintout s g (reachPrinted (targetFiles s g))
 
--- a line: its numbers in columns, then byte 10
-abbrev pub line : List ℕ → List ℕ
-line vs = fields vs ++ (10 ∷ [])
-
--- the numbers of a moment in its twelve slots: the first says how many follow, and no more than eleven can
-abbrev pub shown : List ℕ → List ℕ
-shown slots = take (min (getD slots 0 0) 11) (drop 1 slots)
-
--- the lines of the first n moments, twelve slots each
-unfoldable pub moments : ℕ → List ℕ → List ℕ
-moments zero slots = []
-moments (suc n) slots = moments n slots ++ line (shown (drop (12 * n) slots))
+-- the same for the bytes q of a question
+pub record AskText (s q : List ℕ) (n : ℕ) (before after : List ℕ) : Type 0 where
+  pub put : Put (askPrinted (questionFiles s q)) 0 n before after
+  pub counts : Counts n after
+  pub means : AskPrintout s q (askPrinted (questionFiles s q))

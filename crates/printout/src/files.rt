@@ -1,6 +1,15 @@
 // Reading a file by name: one that cannot be read counts as empty.
 ghost use Rattle.io.specs.Counts.{Counts};
 
+// What a program did: how many bytes of the table and of the other file it read, how many of its text it handed to C's write, and whether all of
+// them could be written.
+pub struct Printed {
+    pub table: usize,
+    pub other: usize,
+    pub text: usize,
+    pub all: bool,
+}
+
 // Reads until the bytes are full or the file ends; 0 where a read fails.
 fn read_whole(file: i32, bytes: &mut [u8]) -> usize
     ensures { λ r. ⌜ Counts r (now (bytes .exit)) ⌝ }

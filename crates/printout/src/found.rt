@@ -1,9 +1,15 @@
 // The printout for a target: the answer's line, and a line for each moment of the run.
+ghost use mathlib.Core.List.{_∷_};
 ghost use mathlib.Core.Path.{_≡_};
 ghost use Prim.Native.Nat.{_≤_};
 ghost use lib.ListN.{length, take};
 ghost use Rattle.io.specs.Counts.{Counts};
-ghost use Rattle.printout.specs.AnswerNumbers.{reachNumbers, momentCount, reachText, reachPrintout};
+ghost use Rattle.columns.specs.Columns.{fileBytes};
+ghost use Rattle.claims.specs.Files.{targetFiles};
+ghost use Rattle.claims.specs.AnswerNumbers.{reachNumbers};
+ghost use Rattle.printout.specs.PrintedLines.{moments as momentsIn, momentCount, reachPrinted};
+ghost use Rattle.printout.specs.Text.{Put, ReachText};
+use crate::files::Printed;
 use crate::files::read_file;
 use crate::text::put_line;
 use crate::text::put_moments;
@@ -48,10 +54,12 @@ fn moments(reply: Reaching) -> usize
     }
 }
 
-// Writes the printout of an answer and its run; returns how long it is.
-fn write(text: &mut [u8], reply: Reaching, slots: &[u32]) -> usize
+// Writes the lines of an answer and its run; returns where they end.
+fn put_answer(text: &mut [u8], reply: Reaching, slots: &[u32]) -> usize
     requires { ⌜ (momentCount reply ≤ 10785) × (722620 ≤ length (now text)) × (129420 ≤ length (now slots)) ⌝ }
-    ensures { λ r. ⌜ Counts r (now (text .exit)) × (take r (now (text .exit)) ≡ reachText reply (now (slots .entry))) ⌝ }
+    ensures { λ r.
+        ⌜ Put (reachNumbers reply ∷ momentsIn (momentCount reply) (now (slots .entry))) 0 r (now (text .entry)) (now (text .exit))
+        × Counts r (now (text .exit)) ⌝ }
 {
     let first = first_line(reply);
     let n = first.count;
@@ -60,9 +68,10 @@ fn write(text: &mut [u8], reply: Reaching, slots: &[u32]) -> usize
     put_moments(text, at, slots, moments(reply))
 }
 
-// Writes the printout for the bytes of a table and a target.
-pub fn reach_text(table: &[u8], target: &[u8], text: &mut [u8; 722620]) -> usize
-    ensures { λ r. ⌜ Counts r (now (text .exit)) × (take r (now (text .exit)) ≡ reachPrintout (now (table .entry)) (now (target .entry))) ⌝ }
+// Writes the printout for the bytes of a table and a target; returns how long it is.
+pub fn reach_text(table: &[u8], target: &[u8], text: &mut [u8]) -> usize
+    requires { ⌜ 722620 ≤ length (now text) ⌝ }
+    ensures { λ r. ⌜ ReachText (now (table .entry)) (now (target .entry)) r (now (text .entry)) (now (text .exit)) ⌝ }
 {
     let mut words = [0u32; 337];
     let mut least = [0u16; 10784];
@@ -78,16 +87,45 @@ pub fn reach_text(table: &[u8], target: &[u8], text: &mut [u8; 722620]) -> usize
         &mut run,
         &mut slots,
     );
-    write(text, reply, &slots)
+    put_answer(text, reply, &slots)
 }
 
-// Prints the answer for the files of these names; false where not all could be written.
+// Hands the printout for these bytes of a table and a target to C's write.
+fn hand_over(table: &[u8], target: &[u8], text: &[u8]) -> bool
+    requires { ⌜ now text ≡ fileBytes (reachPrinted (targetFiles (now table) (now target))) ⌝ }
+{
+    io::write_all(STDOUT_FILENO, text)
+}
+
+// Prints the answer for the files of these names: reads both into lent bytes, and hands the printout for what was read over, all at once.
+pub fn print_reaching_over(
+    table_name: &[u8],
+    target_name: &[u8],
+    table: &mut [u8],
+    target: &mut [u8],
+    text: &mut [u8],
+) -> Printed
+    requires { ⌜ (40001 ≤ length (now table)) × (310 ≤ length (now target)) × (722620 ≤ length (now text)) ⌝ }
+    ensures { λ r.
+        ⌜ ReachText (take (r .table) (now (table .exit))) (take (r .other) (now (target .exit))) (r .text) (now (text .entry)) (now (text .exit)) ⌝ }
+{
+    let t = read_file(table_name, table);
+    let g = read_file(target_name, target);
+    let n = reach_text(&table[..t], &target[..g], text);
+    let all = hand_over(&table[..t], &target[..g], &text[..n]);
+    Printed {
+        table: t,
+        other: g,
+        text: n,
+        all: all,
+    }
+}
+
+// The same, over memory of its own; false where not all could be written.
 pub fn print_reaching(table_name: &[u8], target_name: &[u8]) -> bool {
     let mut table = [0u8; 40001];
-    let t = read_file(table_name, &mut table);
     let mut target = [0u8; 310];
-    let g = read_file(target_name, &mut target);
     let mut text = [b' '; 722620];
-    let n = reach_text(&table[..t], &target[..g], &mut text);
-    io::write_all(STDOUT_FILENO, &text[..n])
+    let printed = print_reaching_over(table_name, target_name, &mut table, &mut target, &mut text);
+    printed.all
 }

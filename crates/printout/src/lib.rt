@@ -5,5 +5,9 @@ pub mod found;
 pub mod text;
 
 pub use asked::print_asking;
+pub use asked::print_asking_over;
+pub use files::Printed;
 pub use found::print_reaching;
+pub use found::print_reaching_over;
 pub use text::print_line;
+pub use text::print_line_over;

@@ -1,30 +1,20 @@
-// Lines of numbers as bytes: each number in six columns, byte 10 at the end.
+// Lines of numbers in a lent text: each number in six columns, byte 10 at the end. Every other byte of the text is kept.
+ghost use mathlib.Core.List.{[], _∷_};
 ghost use mathlib.Core.Path.{_≡_};
-ghost use mathlib.Core.List.{_++_};
 ghost use Prim.Native.Nat.{_+_, _*_, _≤_, min};
-ghost use lib.ListN.{length, take};
+ghost use lib.ListN.{length};
 ghost use Rattle.io.specs.Counts.{Counts};
-ghost use Rattle.printout.specs.Text.{fields, line, shown, moments as momentLines};
+ghost use Rattle.columns.specs.Columns.{fileBytes};
+ghost use Rattle.printout.specs.PrintedLines.{shown, moments as momentsIn};
+ghost use Rattle.printout.specs.Text.{Put};
 use libc::STDOUT_FILENO;
-
-// Sets the numbers in columns, from byte `at` on.
-fn put_numbers(text: &mut [u8], at: usize, numbers: &[u32])
-    requires { ⌜ at + 6 * length (now numbers) ≤ length (now text) ⌝ }
-    ensures { λ r. ⌜ take (at + 6 * length (now (numbers .entry))) (now (text .exit)) ≡ take at (now (text .entry)) ++ fields (now (numbers .entry)) ⌝ }
-{
-    let mut i = 0;
-    while i < numbers.len() {
-        columns::put(text, at + 6 * i, numbers[i]);
-        i += 1;
-    }
-}
 
 // Writes a line from byte `at` on; returns where it ends.
 pub fn put_line(text: &mut [u8], at: usize, numbers: &[u32]) -> usize
     requires { ⌜ at + 6 * length (now numbers) + 1 ≤ length (now text) ⌝ }
-    ensures { λ r. ⌜ (r ≡ at + 6 * length (now (numbers .entry)) + 1) × Counts r (now (text .exit)) × (take r (now (text .exit)) ≡ take at (now (text .entry)) ++ line (now (numbers .entry))) ⌝ }
+    ensures { λ r. ⌜ Put (now (numbers .entry) ∷ []) at r (now (text .entry)) (now (text .exit)) × Counts r (now (text .exit)) ⌝ }
 {
-    put_numbers(text, at, numbers);
+    columns::put_numbers(text, at, 6, numbers);
     let end = at + 6 * numbers.len();
     text[end] = 10;
     end + 1
@@ -42,7 +32,7 @@ fn at_most_eleven(n: u32) -> usize
 // Writes the line of a moment: of its twelve slots the first says how many numbers follow.
 fn put_moment(text: &mut [u8], at: usize, slots: &[u32]) -> usize
     requires { ⌜ (at + 67 ≤ length (now text)) × (12 ≤ length (now slots)) ⌝ }
-    ensures { λ r. ⌜ (r ≤ at + 67) × (take r (now (text .exit)) ≡ take at (now (text .entry)) ++ line (shown (now (slots .entry)))) ⌝ }
+    ensures { λ r. ⌜ (r ≤ at + 67) × Put (shown (now (slots .entry)) ∷ []) at r (now (text .entry)) (now (text .exit)) ⌝ }
 {
     let end = 1 + at_most_eleven(slots[0]);
     put_line(text, at, &slots[1..end])
@@ -51,7 +41,7 @@ fn put_moment(text: &mut [u8], at: usize, slots: &[u32]) -> usize
 // Writes the lines of the first moments.
 pub fn put_moments(text: &mut [u8], at: usize, slots: &[u32], moments: usize) -> usize
     requires { ⌜ (at + 67 * moments ≤ length (now text)) × (12 * moments ≤ length (now slots)) ⌝ }
-    ensures { λ r. ⌜ (r ≤ at + 67 * moments) × (take r (now (text .exit)) ≡ take at (now (text .entry)) ++ momentLines moments (now (slots .entry))) ⌝ }
+    ensures { λ r. ⌜ (r ≤ at + 67 * moments) × Put (momentsIn moments (now (slots .entry))) at r (now (text .entry)) (now (text .exit)) ⌝ }
 {
     let mut end = at;
     let mut k = 0;
@@ -63,9 +53,24 @@ pub fn put_moments(text: &mut [u8], at: usize, slots: &[u32], moments: usize) ->
     end
 }
 
-// Prints a line of its own, as a case's number.
+// Hands a line with one number to C's write.
+fn hand_over(number: u32, text: &[u8]) -> bool
+    requires { ⌜ now text ≡ fileBytes ((number ∷ []) ∷ []) ⌝ }
+{
+    io::write_all(STDOUT_FILENO, text)
+}
+
+// Prints a line of its own, as a case's number, from a lent text; false where not all of it could be written.
+pub fn print_line_over(number: u32, text: &mut [u8]) -> bool
+    requires { ⌜ 7 ≤ length (now text) ⌝ }
+    ensures { λ r. ⌜ Put ((number ∷ []) ∷ []) 0 7 (now (text .entry)) (now (text .exit)) ⌝ }
+{
+    let end = put_line(text, 0, &[number]);
+    hand_over(number, &text[..end])
+}
+
+// The same, over a text of its own.
 pub fn print_line(number: u32) -> bool {
     let mut text = [b' '; 7];
-    let end = put_line(&mut text, 0, &[number]);
-    io::write_all(STDOUT_FILENO, &text[..end])
+    print_line_over(number, &mut text)
 }

@@ -1,6 +1,6 @@
 -- What the form of an accepted question satisfies: the rows are a question to the table (`question-fits`), and the numbers are small (`question-form`).
 -- Assumes nothing.
-use Prim.Native.Nat.{ℕ, suc, _+_, _*_, _≤_, _<_}
+use Prim.Native.Nat.{ℕ, suc, _+_, _*_, _≤_}
 use mathlib.Core.Bool.{Bool, true, false, cond, _&&_}
 use mathlib.Core.List.{List, [], _∷_, _++_}
 use mathlib.Core.Path.{_≡_, refl, sym, _∙_, subst}
@@ -19,8 +19,8 @@ use Rattle.automata.specs.Questions.Use.{locationNumber, registerNumber, consta
 use Rattle.automata.specs.WellFormed.{inside, fitsUse, fitsRow, fitsRows, fitsQuestion}
 use Rattle.questions.specs.declared.Counts.{Counts}
 use Rattle.questions.specs.QuestionRules.{firstOf, judgeField, judgeRow, rowIn, judgeFields}
-use Rattle.forms.specs.QuestionForm.{rowsOf}
-use Rattle.forms.proofs.QuestionRows.{put-length, rows-length, rows-put, put-low, zeros-low}
+use Rattle.forms.specs.QuestionForm.{questionLength, rowsOf}
+use Rattle.forms.proofs.QuestionRows.{HasRow, has-row, put-length, rows-length, rows-put, put-low, zeros-low}
 use Rattle.questions.specs.Question.{Rows, nothingRead, questionRules, counts, readQuestion}
 
 -- An accepted row
@@ -36,6 +36,11 @@ both-passed true x y e = by (eqb x 0) refl e
     by : (k : Bool) → eqb x 0 ≡ k → cond k y x ≡ 0 → Unit {0} × (x ≡ 0) × (y ≡ 0)
     by true h e = (tt, eqb-true x 0 h, e)
     by false h e = absurd (eqb-false x 0 h e)
+
+-- a line has three fields, which is 19 bytes
+pub three-fields : (k : Bool) (count x : ℕ) → eqb count 3 ≡ k → cond k x 2 ≡ 0 → (count ≡ 3) × (x ≡ 0)
+three-fields true count x h e = (eqb-true count 3 h, e)
+three-fields false count x h e = absurd (omega arith)
 
 inside-most : (m x : ℕ) → T (inside m x) → x ≤ m
 inside-most m x h = leb→le x m (and-r (leb 1 x) (leb x m) h)
@@ -88,15 +93,10 @@ module _ (a : Automaton) where
 
   -- the rows q after m bytes
   record After (m : ℕ) (q : Rows) : Type 0 where
-    size : length (q .form) ≡ 96
+    size : length (q .form) ≡ questionLength
     used : 19 * q .count ≤ m
     low : (i : ℕ) → getD (q .form) i 0 ≤ bound
     fits : T (fitsRows a 0 (rowsOf (q .form) (q .count)))
-
-  -- a line has three fields, which is 19 bytes
-  three-fields : (k : Bool) (count x : ℕ) → eqb count 3 ≡ k → cond k x 2 ≡ 0 → (count ≡ 3) × (x ≡ 0)
-  three-fields true count x h e = (eqb-true count 3 h, e)
-  three-fields false count x h e = absurd (omega arith)
 
   after-row : (m : ℕ) (q : Rows) (fs : List ℕ) → Low (padded fs) → judgeFields countsOf (q .count) (length fs) (padded fs) ≡ 0 → m + (6 * length fs + 1) ≤ 608 → After m q
       → After (m + (6 * length fs + 1)) (questionRules countsOf .accept q (padded fs))
@@ -107,7 +107,7 @@ module _ (a : Automaton) where
       let r : Row = rowIn (padded fs) in
       let g = three-fields (eqb (length fs) 3) (length fs) (judgeRow countsOf n r) refl e in
       let j : judgeRow countsOf n r ≡ 0 = g .1 in
-      let k : 3 * n + 2 < length t = omega (arith, s .size, s .used, g .0) in
+      let k : HasRow t n = has-row t n (s .size) (omega (arith, s .used, g .0)) in
       let z : 0 + length (rowsOf t n) ≡ n = omega (arith, rows-length t n) in
       record {
         size = put-length t n r ∙ s .size;
@@ -122,7 +122,7 @@ module _ (a : Automaton) where
 
   -- the form t of n rows holds a question to the table
   pub record Asks (t : List ℕ) (n : ℕ) : Type 0 where
-    pub long : length t ≡ 96
+    pub long : length t ≡ questionLength
     pub least : 1 ≤ n
     pub most : n ≤ 32
     pub low : (i : ℕ) → getD t i 0 ≤ bound
@@ -151,7 +151,7 @@ module _ (a : Automaton) where
       }
     where
       begins : After 0 nothingRead
-      begins = record { size = length-replicate {A = ℕ} 96 0; used = omega arith; low = zeros-low bound 96; fits = tt }
+      begins = record { size = length-replicate {A = ℕ} questionLength 0; used = omega arith; low = zeros-low bound questionLength; fits = tt }
 
   pub question-fits : (s : List ℕ) (q : Rows) → readQuestion (a .registers) (length (a .constants)) (a .locations) s ≡ accepted q → T (fitsQuestion a (rowsOf (q .form) (q .count)))
   question-fits s q e = question-form s q e .fits

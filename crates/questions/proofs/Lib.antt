@@ -2,4 +2,3 @@
 pub mod RowShapes
 pub mod QuestionOutcomes
 pub mod Fits
-pub mod SampleQuestions

@@ -1,16 +1,17 @@
 // The reader of questions: the rules for a row, and the loop over the bytes.
 ghost use mathlib.Core.Path.{_≡_};
 ghost use Prim.Native.Nat.{_≤_};
-ghost use lib.ListN.{length, set};
+ghost use lib.ListN.{length};
 ghost use Rattle.fields.specs.Machine.{between, judgeRead, ended, fed, run};
 ghost use Rattle.forms.specs.Shapes.{useOf};
-ghost use Rattle.forms.specs.QuestionForm.{row, put};
+ghost use Rattle.forms.specs.QuestionForm.{row};
 ghost use Rattle.questions.specs.QuestionRules.{judgeNumber, judgeField, judgeRow, judgeFields};
 ghost use Rattle.questions.specs.Question.{questionRules, readQuestion};
 ghost use Rattle.questions.specs.QuestionReply.{replyOf, formOf};
 ghost use Rattle.questions.specs.RowsRead.{reading};
 use fields::Line;
 use fields::Lines;
+use forms::Question;
 use forms::Use;
 use refusals::Refusal;
 
@@ -79,25 +80,6 @@ fn judge_line(c: Counts, n: u32, l: Line) -> u32
     2
 }
 
-// Writes v at i, or nothing past the end.
-fn store(t: &mut [u32], i: usize, v: u32)
-    ensures { λ r. ⌜ now (t .exit) ≡ set (now (t .entry)) i v ⌝ }
-{
-    if i < t.len() {
-        t[i] = v;
-    }
-}
-
-// Writes a row.
-fn put_row(t: &mut [u32], n: u32, k: u32, a: u32, b: u32)
-    ensures { λ r. ⌜ now (t .exit) ≡ put (now (t .entry)) n (row k a b) ⌝ }
-{
-    let i = 3 * (n as usize);
-    store(t, i, k);
-    store(t, i + 1, a);
-    store(t, i + 2, b);
-}
-
 // Byte 10.
 fn end_line(c: Counts, r: Lines, t: &mut [u32]) -> Lines
     requires { ⌜ r .lines ≤ 1000 ⌝ }
@@ -109,7 +91,7 @@ fn end_line(c: Counts, r: Lines, t: &mut [u32]) -> Lines
     let q = fields::with_line(r, x);
     if x == 0 {
         let f = l.fields;
-        put_row(t, n, f[0], f[1], f[2]);
+        forms::put_question_row(t, n, f[0], f[1], f[2]);
         return q;
     }
     q
@@ -152,9 +134,11 @@ pub fn read_question(
     constants: u32,
     locations: u32,
     s: &[u8],
-    rows: &mut [u32; 96],
+    rows: &mut Question,
 ) -> Reply
-    ensures { λ r. ⌜ (r ≡ replyOf (readQuestion registers constants locations (now (s .entry)))) × (now (rows .exit) ≡ formOf (readQuestion registers constants locations (now (s .entry))) (now (rows .entry))) ⌝ }
+    ensures { λ r.
+        ⌜ (r ≡ replyOf (readQuestion registers constants locations (now (s .entry))))
+        × (now (rows .exit) ≡ formOf (readQuestion registers constants locations (now (s .entry))) (now (rows .entry))) ⌝ }
 {
     if 608 < s.len() {
         return Reply::Refused(Refusal {
@@ -168,7 +152,7 @@ pub fn read_question(
         constants: constants,
         locations: locations,
     };
-    let mut form = [0u32; 96];
+    let mut form = [0u32; forms::QUESTION_LENGTH];
     let r = read_bytes(c, s, &mut form);
     let n = r.lines;
     let x = fields::at_end(r, 0 < n);

@@ -84,18 +84,20 @@ second-fails a b e h = rw e at h
 third-fails : (a b c : Bool) → a ≡ true → b ≡ true → not (a && b && c) ≡ true → c ≡ false
 third-fails a b c e g h = not-true c (rw (e, g) at h)
 
--- what the table of kinds asks of a line of this kind with the first number x
-record Passed (p : Progress) (k : Kind) (x : ℕ) : Type 0 where
-  from : k .from ≤ p .stage
-  to : p .stage ≤ k .to
-  due : k .due ≡ true
-  few : k .condition ≡ true → p .conds < 8
-  rise : k .rising ≡ true → p .stage ≡ k .next → p .newest < x
+-- what the table of kinds asks of a line of n fields, of this kind and with the first number x
+pub record Passed (p : Progress) (k : Kind) (n x : ℕ) : Type 0 where
+  pub wide : n ≡ k .fields
+  pub from : k .from ≤ p .stage
+  pub to : p .stage ≤ k .to
+  pub due : k .due ≡ true
+  pub few : k .condition ≡ true → p .conds < 8
+  pub rise : k .rising ≡ true → p .stage ≡ k .next → p .newest < x
 
-passed : (p : Progress) (k : Kind) (n x : ℕ) → expected p k n ≡ true → crowded p k ≡ false → inOrder p k x ≡ true → Passed p k x
+passed : (p : Progress) (k : Kind) (n x : ℕ) → expected p k n ≡ true → crowded p k ≡ false → inOrder p k x ≡ true → Passed p k n x
 passed p k n x e c o =
     let h = and4 (eqb n (k .fields)) (leb (k .from) (p .stage)) (leb (p .stage) (k .to)) (k .due) e in
     record {
+      wide = eqb-true _ _ (h .0);
       from = leb-true _ _ (h .1);
       to = leb-true _ _ (h .2);
       due = h .3;
@@ -103,17 +105,22 @@ passed p k n x e c o =
       rise = λ g j. leb-false x (p .newest) (third-fails (k .rising) (eqb (p .stage) (k .next)) (leb x (p .newest)) g (eq-eqb _ _ j) o);
     }
 
+-- the table of kinds lets an accepted line stand, and its numbers are in their ranges
+pub line-passed : (p : Progress) (n : ℕ) (f : List ℕ) → judgeLine p n f ≡ 0 → Passed p (kindAt p (at f 0) (at f 1)) n (at f 1) × (inRange p f ≡ true)
+unfolding judgeLine judgeValues
+line-passed p n f z =
+    let k : Kind = kindAt p (at f 0) (at f 1) in
+    let h = passes (expected p k n) (crowded p k) (inRange p f) (inOrder p k (at f 1)) (eqb (at f 0) 1) z in
+    (passed p k n (at f 1) (h .0) (h .1) (h .3), h .2)
+
 no-kind : {A : Type 0} → false ≡ true → A
 no-kind e = let z : _≡_ {A = ℕ} 0 1 = cc in absurd (omega arith)
 
 pub stands : (p : Progress) (n : ℕ) (f : List ℕ) → judgeLine p n f ≡ 0 → Stands p f
-unfolding judgeLine judgeValues inRange kindAt
-stands p n f z =
-    let here : Kind = kindAt p (at f 0) (at f 1) in
-    let h = passes (expected p here n) (crowded p here) (inRange p f) (inOrder p here (at f 1)) (eqb (at f 0) 1) z in
-    by (at f 0) refl (passed p here n (at f 1) (h .0) (h .1) (h .3)) (h .2)
+unfolding inRange kindAt
+stands p n f z = let (h, r) = line-passed p n f z in by (at f 0) refl h r
   where
-    by : (k : ℕ) → at f 0 ≡ k → Passed p (kindAt p k (at f 1)) (at f 1) → fitFrom p true (kindOf k .fields) f 1 ≡ true → Stands p f
+    by : (k : ℕ) → at f 0 ≡ k → Passed p (kindAt p k (at f 1)) n (at f 1) → fitFrom p true (kindOf k .fields) f 1 ≡ true → Stands p f
     by zero e h r = no-kind (h .due)
     by (suc zero) e h r =
         let q = and5 (leb (at f 1) 5) (leb (at f 2) 2) (inside 16 (at f 3)) (inside 16 (at f 4)) (leb (at f 5) 64) r in

@@ -1,6 +1,5 @@
 -- The counters stay small; a number that is no kind. Assumes nothing.
 use Prim.Native.Nat.{ℕ, zero, suc, _+_, _^_, _≤_, _<_}
-use mathlib.Core.Bool.{Bool, true, false, cond}
 use native.Mathlib.Omega.{arith}
 use mathlib.Core.List.{List}
 use lib.Dec.{eqb}
@@ -10,11 +9,7 @@ use Rattle.reader.specs.TableRead.{Small}
 use Rattle.reader.specs.declared.Progress.{Progress}
 use Rattle.reader.specs.declared.Kind.{Kind}
 use Rattle.reader.specs.TableRules.{at, noKind, kindOf, kindAt, advance}
-
--- a choice between two numbers is at most m where both are
-cond-le : (c : Bool) {a b m : ℕ} → a ≤ m → b ≤ m → cond c a b ≤ m
-cond-le true p q = p
-cond-le false p q = q
+use Rattle.graphs.proofs.Lists.{cond-le}
 
 pub row-low : (p : Progress) (k n : ℕ) → Small p 50000 → n < 2 ^ 32 → kindAt p k n .row ≤ 2 ^ 40
 unfolding kindAt

@@ -1,22 +1,23 @@
 -- The form of every table that is read has its shape (`legal`), and so has the form of every target (`legal-target`).
 -- Assumes nothing.
-use Prim.Native.Nat.{ℕ, zero, suc, _+_, _*_, _≤_, _<_}
+use Prim.Native.Nat.{ℕ, _+_, _≤_, _<_}
 use mathlib.Core.Bool.{Bool, true, false, and-eq-true-iff}
 use mathlib.Core.List.{List}
 use mathlib.Core.Path.{_≡_, refl, subst}
 use borrow.Author.Tests.{leb-true, eqb-true, eqb-false}
 use native.Mathlib.Omega.{arith}
 use lib.Dec.{leb, eqb}
-use lib.ListN.{length, replicate, length-replicate}
+use lib.ListN.{length}
 use Rattle.refusals.specs.Judged.{Judged, _then_}
 use Rattle.refusals.specs.Judged.Judged.{accepted, refused}
 use Rattle.fields.specs.Format.{padded}
 use Rattle.fields.specs.LineFiles.{readFile}
 use Rattle.fields.proofs.Digits.{Low, low-zeros}
 use Rattle.fields.proofs.LineFiles.{file-keeps}
-use Rattle.forms.specs.TableForm.{cell, formLength}
+use Rattle.forms.specs.TableForm.{rowCount, formLength, countsRow, startingRows, cell}
+use Rattle.forms.proofs.FormRows.{length-without, cell-without}
 use Rattle.reader.specs.declared.Progress.{Progress}
-use Rattle.reader.specs.TableRules.{at, kindAt, advance, further, placed, atStart, beforeTarget, complete}
+use Rattle.reader.specs.TableRules.{kindAt, advance, further, placed, atStart, beforeTarget, complete}
 use Rattle.reader.specs.Table.{Read, tableRules, blankForm, readForm, readTable, readTarget}
 use Rattle.reader.proofs.Accepted.{Stands, stands, line1, line2, line3, line4, line5, line6, line7, line8}
 use Rattle.reader.proofs.Shape.{TransitionRows, Legal, LegalTarget}
@@ -38,28 +39,20 @@ module _ (Q : Progress → List ℕ → Type 0) (step : (p : Progress) (f t : Li
           (λ m y fs l j w q. step (y .progress) (padded fs) (y .form) l (stands (y .progress) (length fs) (padded fs) j) q) x begun s h z in
           (x .progress, subst (Q (x .progress)) same (k .1), k .2)
 
-completed : (p : Progress) → complete p ≡ true → (4 ≤ p .stage) × (p .transitions ≤ p .transition)
+pub completed : (p : Progress) → complete p ≡ true → (4 ≤ p .stage) × (p .transitions ≤ p .transition)
 unfolding complete
 completed p c =
     let h = and-eq-true-iff (leb 4 (p .stage)) (leb (p .transitions) (p .transition)) .0 c in
     (leb-true 4 (p .stage) (h .0), leb-true (p .transitions) (p .transition) (h .1))
 
 -- a form with no lines
-zeros : (n i : ℕ) → at (replicate n 0) i ≡ 0
-zeros n i = omega (arith, blank-at n i)
-  where
-    blank-at : (n i : ℕ) → at (replicate n 0) i ≤ 0
-    blank-at zero i = omega arith
-    blank-at (suc n) zero = omega arith
-    blank-at (suc n) (suc i) = blank-at n i
-
-blank-sound : (p : Progress) → Counted p → p .ids ≡ 0 → p .acts ≡ 0 → p .stage ≤ 3 → Sound p blankForm
+pub blank-sound : (p : Progress) → Counted p → p .ids ≡ 0 → p .acts ≡ 0 → p .stage ≤ 3 → Sound p blankForm
 blank-sound p n a b h =
     let x = n .unread (omega arith) in
     let y = n .early (omega arith) in
     record {
       counted = n;
-      size = length-replicate {A = ℕ} formLength 0;
+      size = length-without rowCount;
       low = low-zeros formLength;
       constants = record { second = λ e g. absurd (omega arith); rise = λ e. absurd (omega arith) };
       arities = λ i k. absurd (omega arith);
@@ -67,10 +60,10 @@ blank-sound p n a b h =
       starting = record {
         starts = 0;
         counts = λ k. omega arith;
-        starting = record { few = omega arith; each = λ j k. absurd (omega arith); rest = λ j k l. zeros formLength (6 * (20 + j) + 0) };
+        starting = record { few = omega arith; each = λ j k. absurd (omega arith); rest = λ j k l. cell-without rowCount (startingRows + j) 0 };
       };
       moves = record {
-        fresh = λ z k. zeros formLength (6 * z + 0);
+        fresh = λ x k. cell-without rowCount x 0;
         done = λ i k. absurd (omega arith);
         current = λ i k. absurd (omega arith);
       };
@@ -85,7 +78,8 @@ transition-rows p t s i h = by (eqb (i + 1) (p .transition)) refl
     by true z = let u = s .moves .current i (eqb-true _ _ z) in (u .0, p .params, u .1)
     by false z = s .moves .done i (omega (arith, eqb-false (i + 1) (p .transition) z))
 
-legal-end : (p : Progress) (t : List ℕ) → Sound p t → HeadedBy p t → complete p ≡ true → Legal t
+-- the form of a complete table
+pub legal-end : (p : Progress) (t : List ℕ) → Sound p t → HeadedBy p t → complete p ≡ true → Legal t
 legal-end p t s h c =
     let n = s .counted in
     let d = completed p c in
@@ -148,7 +142,7 @@ target-end r c l p t s x y z e =
     }
 
 -- what holds of every target that is read, for a table of these counts
-target-legal : (r c l : ℕ) (s u : List ℕ) → r ≤ 5 → c ≤ 2 → l ≤ 16 → readForm 2 309 (beforeTarget r c l) s ≡ accepted u → LegalTarget r c l u
+pub target-legal : (r c l : ℕ) (s u : List ℕ) → r ≤ 5 → c ≤ 2 → l ≤ 16 → readForm 2 309 (beforeTarget r c l) s ≡ accepted u → LegalTarget r c l u
 target-legal r c l s u x y z e =
     let h = form-keeps (Aimed r c l) (aimed-step r c l) 2 309 (beforeTarget r c l) s u
     (record { sound = blank-sound (beforeTarget r c l) (omega arith) refl refl (omega arith); same1 = refl; same2 = refl; same3 = refl; beyond = omega arith }) e in
@@ -156,5 +150,5 @@ target-legal r c l s u x y z e =
     target-end r c l (h .0) u (a .sound) (a .same1) (a .same2) (a .same3) (h .2)
 
 -- what holds of every target that is read for the table with the form t
-pub legal-target : (t s u : List ℕ) → Legal t → readTarget t s ≡ accepted u → LegalTarget (cell t 0 1) (cell t 0 2) (cell t 0 3) u
-legal-target t s u n e = target-legal (cell t 0 1) (cell t 0 2) (cell t 0 3) s u (n .registers) (n .constants) (n .locations .1) e
+pub legal-target : (t s u : List ℕ) → Legal t → readTarget t s ≡ accepted u → LegalTarget (cell t countsRow 1) (cell t countsRow 2) (cell t countsRow 3) u
+legal-target t s u n e = target-legal (cell t countsRow 1) (cell t countsRow 2) (cell t countsRow 3) s u (n .registers) (n .constants) (n .locations .1) e

@@ -2,10 +2,8 @@
 pub mod Bounds
 pub mod TableOutcomes
 pub mod Accepted
-pub mod FormRows
 pub mod Shape
 pub mod Keeping
 pub mod LegalForms
 pub mod Present
 pub mod WellRead
-pub mod Sample

@@ -8,29 +8,18 @@ use borrow.Author.Tests.{eq-eqb}
 use native.Mathlib.Omega.{arith}
 use lib.Dec.{T, eqb, ltb, lt→ltb}
 use lib.Ieee.Fits.{and-i}
-use lib.ListN.{length}
 use Rattle.graphs.specs.Lists.{upFrom, select, allOf}
+use Rattle.graphs.proofs.Lists.{all-map, select-mem, upFrom-mem, T-true}
 use Rattle.classes.specs.Renaming.{rising}
-use Rattle.forms.specs.TableForm.{cell, present}
+use Rattle.forms.specs.TableForm.{cell}
 
 module _ (s : ℕ → Bool) where
-  select-few : (b m : ℕ) → length (select s (upFrom b m)) ≤ m
-  select-few b zero = omega arith
-  select-few b (suc m) = by (s b) (select-few (suc b) m)
-    where
-      by : (k : Bool) → length (select s (upFrom (suc b) m)) ≤ m → length (cond k (b ∷ select s (upFrom (suc b) m)) (select s (upFrom (suc b) m))) ≤ suc m
-      by true h = omega arith
-      by false h = omega arith
-
   -- a test of what the selected numbers stand for
   pub select-all : {A : Type 0} (p : A → Bool) (f : ℕ → A) (b m : ℕ) → ((x : ℕ) → b ≤ x → x < b + m → s x ≡ true → T (p (f x)))
       → T (allOf p (map f (select s (upFrom b m))))
-  select-all p f b zero h = tt
-  select-all {A} p f b (suc m) h = by (s b) refl (select-all p f (suc b) m (λ x u v. h x (omega arith) (omega arith)))
-    where
-      by : (k : Bool) → s b ≡ k → T (allOf p (map f (select s (upFrom (suc b) m)))) → T (allOf p (map f (cond k (b ∷ select s (upFrom (suc b) m)) (select s (upFrom (suc b) m)))))
-      by true e r = and-i (p (f b)) (allOf p (map f (select s (upFrom (suc b) m)))) (h b (omega arith) (omega arith) e) r
-      by false e r = r
+  select-all p f b m h =
+      all-map p f (select s (upFrom b m))
+      (λ x n. let (k, t) = select-mem s (upFrom b m) n in let (l, u) = upFrom-mem b m k in h x l u (T-true (s x) t))
 
   -- numbers that stand for their place after the number base rise
   module _ (g : ℕ → ℕ) (base : ℕ) where
@@ -56,12 +45,7 @@ module _ (s : ℕ → Bool) where
         by false e r = r
 
 pub upFrom-all : {A : Type 0} (p : A → Bool) (f : ℕ → A) (b m : ℕ) → ((x : ℕ) → b ≤ x → x < b + m → T (p (f x))) → T (allOf p (map f (upFrom b m)))
-upFrom-all p f b zero h = tt
-upFrom-all p f b (suc m) h =
-    and-i (p (f b)) (allOf p (map f (upFrom (suc b) m))) (h b (omega arith) (omega arith)) (upFrom-all p f (suc b) m (λ x u v. h x (omega arith) (omega arith)))
-
-pub present-few : (t : List ℕ) (b m : ℕ) → length (present t b m) ≤ m
-present-few t b m = select-few (λ row. not (eqb (cell t row 0) 0)) b m
+upFrom-all p f b m h = all-map p f (upFrom b m) (λ x n. let (l, u) = upFrom-mem b m n in h x l u)
 
 -- the test of a row that holds no line
 pub holds-none : (t : List ℕ) (x : ℕ) → cell t x 0 ≡ 0 → not (eqb (cell t x 0) 0) ≡ false

@@ -1,14 +1,14 @@
 -- The shape of the form of a table that is read (`Legal`), and of a target (`LegalTarget`): what later code may rely on, by rows and columns.
 -- Assumes nothing.
-use Prim.Native.Nat.{ℕ, _+_, _*_, _≤_, _<_}
+use Prim.Native.Nat.{ℕ, _+_, _≤_, _<_}
 use mathlib.Core.List.{List}
 use mathlib.Core.Logic.{_⊎_}
 use mathlib.Core.Path.{_≡_}
 use lib.ListN.{length}
-use Rattle.forms.specs.TableForm.{cell, formLength, guardRows, registerRow, transitionRow, arityRow}
+use Rattle.forms.specs.TableForm.{formLength, countsRow, constantRows, actionRows, arityRow, startRow, startingRows, transitionRow, guardRows, registerRow, cell}
 use Rattle.reader.specs.TableRules.{at}
 use Rattle.reader.proofs.Accepted.{Inside, Named}
-use Rattle.reader.proofs.FormRows.{rowAt}
+use Rattle.forms.proofs.FormRows.{rowAt}
 
 -- Rows of lines
 
@@ -49,22 +49,22 @@ pub record TransitionRows (r c l m : ℕ) (t : List ℕ) (i n q : ℕ) : Type 0 
 pub record Legal (t : List ℕ) : Type 0 where
   pub size : length t ≡ formLength
   pub low : (i : ℕ) → at t i < 1000000
-  pub registers : cell t 0 1 ≤ 5
-  pub constants : cell t 0 2 ≤ 2
-  pub locations : Inside 16 (cell t 0 3)
-  pub actions : Inside 16 (cell t 0 4)
-  pub transitions : cell t 0 5 ≤ 64
-  pub rise : cell t 0 2 ≡ 2 → cell t 1 1 < cell t 2 1
-  pub arities : (i : ℕ) → i < cell t 0 4 → cell t (3 + i) 1 ≤ 3
-  pub start : Inside (cell t 0 3) (cell t 19 1)
+  pub registers : cell t countsRow 1 ≤ 5
+  pub constants : cell t countsRow 2 ≤ 2
+  pub locations : Inside 16 (cell t countsRow 3)
+  pub actions : Inside 16 (cell t countsRow 4)
+  pub transitions : cell t countsRow 5 ≤ 64
+  pub rise : cell t countsRow 2 ≡ 2 → cell t constantRows 1 < cell t (constantRows + 1) 1
+  pub arities : (i : ℕ) → i < cell t countsRow 4 → cell t (actionRows + i) 1 ≤ 3
+  pub start : Inside (cell t countsRow 3) (cell t startRow 1)
   pub starts : ℕ
-  pub starting : Guarded (cell t 0 1) 0 (cell t 0 2) t 20 starts
-  pub moves : (i : ℕ) → i < cell t 0 5 → (n q : ℕ) × TransitionRows (cell t 0 1) (cell t 0 2) (cell t 0 3) (cell t 0 4) t i n q
+  pub starting : Guarded (cell t countsRow 1) 0 (cell t countsRow 2) t startingRows starts
+  pub moves : (i : ℕ) → i < cell t countsRow 5 → (n q : ℕ) × TransitionRows (cell t countsRow 1) (cell t countsRow 2) (cell t countsRow 3) (cell t countsRow 4) t i n q
 
 -- the form of a target that is read, for r registers, c constants and l locations
 pub record LegalTarget (r c l : ℕ) (t : List ℕ) : Type 0 where
   pub size : length t ≡ formLength
   pub low : (i : ℕ) → at t i < 1000000
-  pub location : Inside l (cell t 19 1)
+  pub location : Inside l (cell t startRow 1)
   pub conditions : ℕ
-  pub guard : Guarded r 0 c t 20 conditions
+  pub guard : Guarded r 0 c t startingRows conditions

@@ -1,6 +1,5 @@
 -- What a caller learns of the reader's reply. Assumes nothing.
 use Prim.Native.Nat.{ℕ, _≤_}
-use mathlib.Core.Bool.{Bool, true, false, cond}
 use mathlib.Core.List.{List}
 use mathlib.Core.Path.{_≡_, refl, sym, _∙_, ap}
 use native.Mathlib.Omega.{arith}
@@ -16,6 +15,7 @@ use Rattle.reader.specs.declared.Reply.the-variants.{Accepted}
 use Rattle.reader.specs.TableRules.{at, kindAt, expected, crowded, inRange, inOrder, judgeValues, judgeLine}
 use Rattle.reader.specs.Table.{Read, tableRules, blankForm, readForm}
 use Rattle.reader.specs.TableReply.{replyOf, formOf}
+use Rattle.graphs.proofs.Lists.{cond-le}
 
 -- a caller that is told `Accepted` has the form of the table
 pub accepted-table : (o : Judged (List ℕ)) (v : List ℕ) → replyOf o ≡ Accepted → o ≡ accepted (formOf o v)
@@ -28,17 +28,12 @@ told o r v u e f g = accepted-table o v (sym e ∙ g) ∙ ap accepted (sym f)
 
 -- A refusal's number is one of document 01's
 
-chosen : (b : Bool) (x y : ℕ) → x ≤ 10 → y ≤ 10 → cond b x y ≤ 10
-chosen true x y h k = h
-chosen false x y h k = k
-
 judge-low : (p : Progress) (n : ℕ) (f : List ℕ) → judgeLine p n f ≤ 10
 unfolding judgeLine judgeValues
 judge-low p n f =
     let k : Kind = kindAt p (at f 0) (at f 1) in
-    chosen (expected p k n) (judgeValues p k f) 2
-    (chosen (crowded p k) 6 _ (omega arith)
-    (chosen (inRange p f) _ _ (chosen (inOrder p k (at f 1)) 0 4 (omega arith) (omega arith)) (chosen (eqb (at f 0) 1) 3 5 (omega arith) (omega arith))))
+    cond-le (expected p k n)
+    (cond-le (crowded p k) (omega arith) (cond-le (inRange p f) (cond-le (inOrder p k (at f 1)) (omega arith) (omega arith)) (cond-le (eqb (at f 0) 1) (omega arith) (omega arith))))
     (omega arith)
 
 pub form-numbers : (file limit : ℕ) (p : Progress) (s : List ℕ) → Numbered (λ x. x ≤ 10) (readForm file limit p s)

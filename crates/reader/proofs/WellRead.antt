@@ -1,31 +1,34 @@
 -- What is read without refusal is well formed, with every limit of document 01 (`table-well-formed`, `target-fits`).
 -- Assumes nothing.
-use Prim.Native.Nat.{ℕ, zero, suc, pred, _+_, _*_, _-_, _≤_, _<_}
+use Prim.Native.Nat.{ℕ, zero, suc, _+_, _-_, _≤_, _<_}
 use mathlib.Core.Bool.{Bool, true, false, not, _&&_}
 use mathlib.Core.List.{List, map, map-map}
 use mathlib.Core.Logic.{_⊎_, inl, inr}
-use mathlib.Core.Path.{_≡_, refl, sym, _∙_, ap, subst}
+use mathlib.Core.Path.{_≡_, refl, sym, _∙_, subst}
 use borrow.Author.Tests.{ltb-true, ltb-false}
 use native.Mathlib.Omega.{arith}
 use lib.Dec.{T, leb, eqb, ltb, le→leb, lt→ltb}
 use lib.Ieee.Fits.{and-i}
-use lib.ListN.{length, length-map}
-use Rattle.graphs.specs.Lists.{item, upFrom, allOf}
-use Rattle.graphs.proofs.Lists.{getD-map, upFrom-length, upFrom-getD}
+use lib.ListN.{length}
+use Rattle.graphs.specs.Lists.{upFrom, allOf}
 use Rattle.classes.specs.Renaming.{rising}
 use Rattle.automata.specs.Automaton.{Assignment, Automaton, arity}
 use Rattle.automata.specs.WellFormed.{inside, fitsTerm, fitsCondition, fitsAssignment, constantCount, fitsTransition, fitsConditions, wellFormed, limited, fitsTarget}
 use Rattle.refusals.specs.Judged.Judged.{accepted}
-use Rattle.forms.specs.TableForm.{cell, present, termOf, conditionAt, assignmentAt, transitionAt, automatonOf, targetOf, assignmentRows, guardRows, registerRow, transitionRow}
+use Rattle.forms.specs.TableForm.{countsRow, constantRows, actionRows, startRow, startingRows, cell, assignmentRows, guardRows, registerRow, transitionRow}
+use Rattle.forms.specs.FormAutomaton.{present, termOf, conditionAt, assignmentAt, transitionAt, automatonOf, targetOf}
+use Rattle.forms.proofs.Encoding.{lines-le}
+use Rattle.forms.proofs.Forms.{constant-count, action-count, transition-count, arity-at}
 use Rattle.reader.specs.Table.{readTable, readTarget}
 use Rattle.reader.proofs.Accepted.{Inside, Named, aRegister, aParameter, aConstant}
-use Rattle.reader.proofs.FormRows.{rowAt}
+use Rattle.forms.proofs.FormRows.{rowAt}
 use Rattle.reader.proofs.Shape.{ConditionRow, AssignmentRow, Guarded, TransitionRows, Legal, LegalTarget}
 use Rattle.reader.proofs.LegalForms.{legal, legal-target}
-use Rattle.reader.proofs.Present.{select-all, select-rising, upFrom-all, present-few, holds-none}
+use Rattle.reader.proofs.Present.{select-all, select-rising, upFrom-all, holds-none}
+use Rattle.automata.proofs.Equivariance.{→inside}
 
 inside-fits : (n i : ℕ) → Inside n i → T (inside n i)
-inside-fits n i h = and-i (leb 1 i) (leb i n) (le→leb 1 i (h .0)) (le→leb i n (h .1))
+inside-fits n i h = →inside n i (h .0) (h .1)
 
 term-fits : (r q c k n : ℕ) → Named r q c k n → T (fitsTerm c r q (termOf k n))
 term-fits r q c k n (aRegister e h) = rw e (inside-fits r n h)
@@ -82,16 +85,13 @@ module _ (r q c : ℕ) (t : List ℕ) (i : ℕ) (h : (j : ℕ) → Inside 5 j �
       (select-rising (λ row. not (eqb (cell t row 0) 0)) (λ x. cell t x 1) (assignmentRows i - 1) (assignmentRows i) 5
       (λ x u v e. let z = row-of x u v e .register in omega arith))
 
-constants-rise : (t : List ℕ) (k : ℕ) → k ≤ 2 → (k ≡ 2 → cell t 1 1 < cell t 2 1) → T (rising (map (λ i. cell t i 1) (upFrom 1 k)))
+constants-rise : (t : List ℕ) (k : ℕ) → k ≤ 2 → (k ≡ 2 → cell t constantRows 1 < cell t (constantRows + 1) 1) → T (rising (map (λ i. cell t i 1) (upFrom constantRows k)))
 constants-rise t zero h r = tt
 constants-rise t (suc zero) h r = tt
-constants-rise t (suc (suc zero)) h r = and-i (ltb (cell t 1 1) (cell t 2 1)) true (lt→ltb (cell t 1 1) (cell t 2 1) (r refl)) tt
+constants-rise t (suc (suc zero)) h r = and-i (ltb (cell t constantRows 1) (cell t (constantRows + 1) 1)) true (lt→ltb (cell t constantRows 1) (cell t (constantRows + 1) 1) (r refl)) tt
 constants-rise t (suc (suc (suc k))) h r = absurd (omega arith)
 
 -- as many entries as numbers
-map-upFrom : {A : Type 0} (f : ℕ → A) (b n : ℕ) → length (map f (upFrom b n)) ≡ n
-map-upFrom f b n = length-map (upFrom b n) f ∙ upFrom-length b n
-
 and6 : (a b c d e f : Bool) → T a → T b → T c → T d → T e → T f → T (a && b && c && d && e && f)
 and6 a b c d e f ta tb tc td te tf =
     and-i (a && b && c && d && e) f (and-i (a && b && c && d) e (and-i (a && b && c) d (and-i (a && b) c (and-i a b ta tb) tc) td) te) tf
@@ -101,47 +101,28 @@ and8 a b c d e f g h ta tb tc td te tf tg th = and-i (a && b && c && d && e && f
 
 -- counts of the automaton, and its transitions, by cells of the form
 module _ (t : List ℕ) where
-  pub constant-count : constantCount (automatonOf t) ≡ cell t 0 2
-  unfolding automatonOf
-  constant-count = map-upFrom (λ i. cell t i 1) 1 (cell t 0 2)
-
-  pub action-count : length (automatonOf t .arities) ≡ cell t 0 4
-  unfolding automatonOf
-  action-count = map-upFrom (λ i. cell t i 1) 3 (cell t 0 4)
-
-  pub transition-count : length (automatonOf t .transitions) ≡ cell t 0 5
-  unfolding automatonOf
-  transition-count = map-upFrom (transitionAt t) 0 (cell t 0 5)
-
-  -- the parameters of action a
-  pub arity-at : (a : ℕ) → Inside (cell t 0 4) a → item (automatonOf t .arities) a ≡ cell t (2 + a) 1
-  unfolding automatonOf
-  arity-at a h =
-      getD-map (λ i. cell t i 1) (upFrom 3 (cell t 0 4)) (pred a) 0 0 (omega (arith, upFrom-length 3 (cell t 0 4)))
-      ∙ ap (λ x. cell t x 1) (upFrom-getD 3 (cell t 0 4) (pred a) (omega arith) ∙ omega arith)
-
   -- the parameters of transition i, as its rows have them
-  pub transition-arity : (i k q : ℕ) → TransitionRows (cell t 0 1) (cell t 0 2) (cell t 0 3) (cell t 0 4) t i k q → arity (automatonOf t) (transitionAt t i) ≡ q
+  pub transition-arity : (i k q : ℕ) → TransitionRows (cell t countsRow 1) (cell t countsRow 2) (cell t countsRow 3) (cell t countsRow 4) t i k q → arity (automatonOf t) (transitionAt t i) ≡ q
   unfolding automatonOf
-  transition-arity i k q s = arity-at (cell t (transitionRow i) 2) (s .head .action) ∙ s .arity
+  transition-arity i k q s = arity-at t (cell t (transitionRow i) 2) (s .head .action) ∙ s .arity
 
-  pub transition-fits : (i k q : ℕ) → TransitionRows (cell t 0 1) (cell t 0 2) (cell t 0 3) (cell t 0 4) t i k q → T (fitsTransition (automatonOf t) (transitionAt t i))
+  pub transition-fits : (i k q : ℕ) → TransitionRows (cell t countsRow 1) (cell t countsRow 2) (cell t countsRow 3) (cell t countsRow 4) t i k q → T (fitsTransition (automatonOf t) (transitionAt t i))
   unfolding automatonOf
   transition-fits i k q s =
-      rw (constant-count, action-count, transition-arity i k q s)
+      rw (constant-count t, action-count t, transition-arity i k q s)
       (and6
-      (inside (cell t 0 3) (transitionAt t i .from))
-      (inside (cell t 0 4) (transitionAt t i .action))
-      (inside (cell t 0 3) (transitionAt t i .to))
-      (allOf (fitsCondition (cell t 0 2) (cell t 0 1) q) (transitionAt t i .guard))
-      (allOf (fitsAssignment (cell t 0 2) (cell t 0 1) q) (transitionAt t i .assigns))
+      (inside (cell t countsRow 3) (transitionAt t i .from))
+      (inside (cell t countsRow 4) (transitionAt t i .action))
+      (inside (cell t countsRow 3) (transitionAt t i .to))
+      (allOf (fitsCondition (cell t countsRow 2) (cell t countsRow 1) q) (transitionAt t i .guard))
+      (allOf (fitsAssignment (cell t countsRow 2) (cell t countsRow 1) q) (transitionAt t i .assigns))
       (rising (map (λ x. x .register) (transitionAt t i .assigns)))
-      (inside-fits (cell t 0 3) (cell t (transitionRow i) 1) (s .head .from))
-      (inside-fits (cell t 0 4) (cell t (transitionRow i) 2) (s .head .action))
-      (inside-fits (cell t 0 3) (cell t (transitionRow i) 3) (s .head .to))
-      (guard-fits (cell t 0 1) q (cell t 0 2) t (guardRows i) k (s .guard))
-      (assigns-fit (cell t 0 1) q (cell t 0 2) t i (s .assigns))
-      (assigns-rise (cell t 0 1) q (cell t 0 2) t i (s .assigns)))
+      (inside-fits (cell t countsRow 3) (cell t (transitionRow i) 1) (s .head .from))
+      (inside-fits (cell t countsRow 4) (cell t (transitionRow i) 2) (s .head .action))
+      (inside-fits (cell t countsRow 3) (cell t (transitionRow i) 3) (s .head .to))
+      (guard-fits (cell t countsRow 1) q (cell t countsRow 2) t (guardRows i) k (s .guard))
+      (assigns-fit (cell t countsRow 1) q (cell t countsRow 2) t i (s .assigns))
+      (assigns-rise (cell t countsRow 1) q (cell t countsRow 2) t i (s .assigns)))
 
 module _ (t : List ℕ) (n : Legal t) where
   pub legal-well-formed : T (wellFormed (automatonOf t))
@@ -151,10 +132,10 @@ module _ (t : List ℕ) (n : Legal t) where
       and-i (rising (a .constants) && inside (a .locations) (a .start) && fitsConditions a (a .starting)) (allOf (fitsTransition a) (a .transitions))
       (and-i (rising (a .constants) && inside (a .locations) (a .start)) (fitsConditions a (a .starting))
       (and-i (rising (a .constants)) (inside (a .locations) (a .start))
-      (constants-rise t (cell t 0 2) (n .constants) (n .rise))
-      (inside-fits (cell t 0 3) (cell t 19 1) (n .start)))
-      (rw (constant-count t) (guard-fits (cell t 0 1) 0 (cell t 0 2) t 20 (n .starts) (n .starting))))
-      (upFrom-all (fitsTransition a) (transitionAt t) 0 (cell t 0 5) (λ x u v. let m = n .moves x (omega arith) in transition-fits t x (m .0) (m .1) (m .2)))
+      (constants-rise t (cell t countsRow 2) (n .constants) (n .rise))
+      (inside-fits (cell t countsRow 3) (cell t startRow 1) (n .start)))
+      (rw (constant-count t) (guard-fits (cell t countsRow 1) 0 (cell t countsRow 2) t startingRows (n .starts) (n .starting))))
+      (upFrom-all (fitsTransition a) (transitionAt t) 0 (cell t countsRow 5) (λ x u v. let m = n .moves x (omega arith) in transition-fits t x (m .0) (m .1) (m .2)))
 
   pub legal-limited : T (limited (automatonOf t))
   unfolding automatonOf
@@ -165,26 +146,27 @@ module _ (t : List ℕ) (n : Legal t) where
       (leb (length (a .starting)) 8) (leb (length (a .transitions)) 64) (allOf (λ x. leb (length (x .guard)) 8) (a .transitions))
       (le→leb (a .registers) 5 (n .registers))
       (le→leb (constantCount a) 2 (rw (constant-count t) (n .constants)))
-      (inside-fits 16 (cell t 0 3) (n .locations))
-      (rw (action-count t) (inside-fits 16 (cell t 0 4) (n .actions)))
-      (upFrom-all (λ x. leb x 3) (λ i. cell t i 1) 3 (cell t 0 4) (λ x u v. let e : 3 + (x - 3) ≡ x = omega arith in le→leb (cell t x 1) 3 (subst (λ y. cell t y 1 ≤ 3) e (n .arities (x - 3) (omega arith)))))
-      (le→leb (length (a .starting)) 8 (omega (arith, length-map (present t 20 8) (conditionAt t), present-few t 20 8)))
+      (inside-fits 16 (cell t countsRow 3) (n .locations))
+      (rw (action-count t) (inside-fits 16 (cell t countsRow 4) (n .actions)))
+      (upFrom-all (λ x. leb x 3) (λ i. cell t i 1) actionRows (cell t countsRow 4)
+      (λ x u v. let e : actionRows + (x - actionRows) ≡ x = omega arith in le→leb (cell t x 1) 3 (subst (λ y. cell t y 1 ≤ 3) e (n .arities (x - actionRows) (omega arith)))))
+      (le→leb (length (a .starting)) 8 (lines-le (conditionAt t) t startingRows 8))
       (le→leb (length (a .transitions)) 64 (rw (transition-count t) (n .transitions)))
-      (upFrom-all (λ x. leb (length (x .guard)) 8) (transitionAt t) 0 (cell t 0 5)
-      (λ x u v. le→leb (length (transitionAt t x .guard)) 8 (omega (arith, length-map (present t (guardRows x) 8) (conditionAt t), present-few t (guardRows x) 8))))
+      (upFrom-all (λ x. leb (length (x .guard)) 8) (transitionAt t) 0 (cell t countsRow 5)
+      (λ x u v. le→leb (length (transitionAt t x .guard)) 8 (lines-le (conditionAt t) t (guardRows x) 8)))
 
 -- what is read as a table is well formed and keeps every limit
 pub table-well-formed : (s t : List ℕ) → readTable s ≡ accepted t → T (wellFormed (automatonOf t)) × T (limited (automatonOf t))
 table-well-formed s t e = let n = legal s t e in (legal-well-formed t n, legal-limited t n)
 
 -- the target of a form fits the automaton that has these counts
-aim-fits : (t u : List ℕ) → LegalTarget (cell t 0 1) (cell t 0 2) (cell t 0 3) u → T (fitsTarget (automatonOf t) (targetOf u)) × (length (targetOf u .conditions) ≤ 8)
+aim-fits : (t u : List ℕ) → LegalTarget (cell t countsRow 1) (cell t countsRow 2) (cell t countsRow 3) u → T (fitsTarget (automatonOf t) (targetOf u)) × (length (targetOf u .conditions) ≤ 8)
 unfolding automatonOf targetOf
 aim-fits t u n = (
-  and-i (inside (cell t 0 3) (cell u 19 1)) (fitsConditions (automatonOf t) (targetOf u .conditions))
-      (inside-fits (cell t 0 3) (cell u 19 1) (n .location))
-      (rw (constant-count t) (guard-fits (cell t 0 1) 0 (cell t 0 2) u 20 (n .conditions) (n .guard))),
-  omega (arith, length-map (present u 20 8) (conditionAt u), present-few u 20 8),
+  and-i (inside (cell t countsRow 3) (cell u startRow 1)) (fitsConditions (automatonOf t) (targetOf u .conditions))
+      (inside-fits (cell t countsRow 3) (cell u startRow 1) (n .location))
+      (rw (constant-count t) (guard-fits (cell t countsRow 1) 0 (cell t countsRow 2) u startingRows (n .conditions) (n .guard))),
+  lines-le (conditionAt u) u startingRows 8,
 )
 
 -- what is read as a target of a table that is read fits this table

@@ -3,4 +3,3 @@ pub mod TableRules
 pub mod Table
 pub mod TableReply
 pub mod TableRead
-pub mod Sample

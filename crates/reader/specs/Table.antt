@@ -2,11 +2,10 @@
 -- Assumes nothing.
 use Prim.Native.Nat.{ℕ}
 use mathlib.Core.List.{List}
-use lib.ListN.{replicate}
 use Rattle.refusals.specs.Judged.{Judged, _then_}
 use Rattle.refusals.specs.Judged.Judged.{accepted}
 use Rattle.fields.specs.LineFiles.{Rules, readFile}
-use Rattle.forms.specs.TableForm.{formLength, countsRow, cell}
+use Rattle.forms.specs.TableForm.{rowCount, countsRow, cell, without}
 use Rattle.reader.specs.declared.Progress.{Progress}
 use Rattle.reader.specs.TableRules.{judgeLine, further, placed, atStart, beforeTarget, complete}
 
@@ -26,7 +25,7 @@ tableRules =
 
 -- a form with no lines
 abbrev pub blankForm : List ℕ
-blankForm = replicate formLength 0
+blankForm = without rowCount
 
 -- the form of a file of at most limit bytes, its first line after p
 abbrev pub readForm : (file limit : ℕ) → Progress → List ℕ → Judged (List ℕ)

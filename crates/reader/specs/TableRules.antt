@@ -1,12 +1,12 @@
 -- The rules for the lines of a table: one table of the kinds of lines, and what it comes to for a line. This is what a reader believes.
 -- Assumes nothing.
-use Prim.Native.Nat.{ℕ, suc, _+_, _*_, _-_}
+use Prim.Native.Nat.{ℕ, suc, _+_, _-_}
 use mathlib.Core.Bool.{Bool, true, false, cond, not, _&&_, _||_}
 use mathlib.Core.List.{List, [], _∷_}
 use lib.Dec.{leb, ltb, eqb}
-use lib.ListN.{getD, set}
+use lib.ListN.{getD}
 use Rattle.automata.specs.WellFormed.{inside}
-use Rattle.forms.specs.TableForm.{cell, countsRow, constantRows, actionRows, startRow, startingRows, transitionRow, guardRows, assignmentRows, arityRow}
+use Rattle.forms.specs.TableForm.{cell, put, countsRow, constantRows, actionRows, startRow, startingRows, transitionRow, guardRows, assignmentRows, arityRow}
 use Rattle.reader.specs.declared.Progress.{Progress}
 use Rattle.reader.specs.declared.Kind.{Kind}
 
@@ -150,11 +150,6 @@ unfoldable pub judgeLine : Progress → ℕ → List ℕ → ℕ
 judgeLine p n f = cond (expected p (kindAt p (at f 0) (at f 1)) n) (judgeValues p (kindAt p (at f 0) (at f 1)) f) 2
 
 -- What an accepted line leaves
-
--- with the numbers f in this row
-unfoldable pub put : List ℕ → ℕ → List ℕ → List ℕ
-put t row f =
-    set (set (set (set (set (set t (6 * row) (at f 0)) (6 * row + 1) (at f 1)) (6 * row + 2) (at f 2)) (6 * row + 3) (at f 3)) (6 * row + 4) (at f 4)) (6 * row + 5) (at f 5)
 
 -- the progress after a line of this kind that is accepted, where the action that a line 6 names has a parameters
 unfoldable pub advance : Progress → Kind → List ℕ → ℕ → Progress

@@ -1,11 +1,11 @@
 // The reader of tables and targets: the rules for their lines, and the loop over their bytes.
 ghost use mathlib.Core.Path.{_≡_};
 ghost use mathlib.Core.Bool.{cond};
-ghost use Prim.Native.Nat.{ℕ, _+_, _^_, _≤_};
-ghost use lib.ListN.{length, getD, set};
+ghost use Prim.Native.Nat.{ℕ, _+_, _≤_};
+ghost use lib.ListN.{length};
 ghost use Rattle.automata.specs.WellFormed.{inside};
 ghost use Rattle.fields.specs.Machine.{between, judgeRead, ended, fed, run};
-ghost use Rattle.reader.specs.TableRules.{hasTerm, kindAt, expected, inRange, judgeValues, judgeLine, advance, put, further, placed, complete};
+ghost use Rattle.reader.specs.TableRules.{hasTerm, kindAt, expected, inRange, judgeValues, judgeLine, advance, further, placed, complete};
 ghost use Rattle.reader.specs.Table.{tableRules, readForm, readTable, readTarget};
 ghost use Rattle.reader.specs.TableReply.{replyOf, formOf};
 ghost use Rattle.reader.specs.TableRead.{reading, Small};
@@ -232,39 +232,6 @@ fn judge_line(p: Progress, l: Line) -> u32
     2
 }
 
-// The number at i, or 0 past the end.
-fn load(t: &[u32], i: usize) -> u32
-    ensures { λ r. ⌜ r ≡ getD (now (t .entry)) i 0 ⌝ }
-{
-    if i < t.len() {
-        return t[i];
-    }
-    0
-}
-
-// Writes v at i, or nothing past the end.
-fn store(t: &mut [u32], i: usize, v: u32)
-    ensures { λ r. ⌜ now (t .exit) ≡ set (now (t .entry)) i v ⌝ }
-{
-    if i < t.len() {
-        t[i] = v;
-    }
-}
-
-// Writes a line's numbers to its row.
-fn put_row(t: &mut [u32], row: usize, f: [u32; 6])
-    requires { ⌜ row ≤ 2 ^ 40 ⌝ }
-    ensures { λ r. ⌜ now (t .exit) ≡ put (now (t .entry)) row f ⌝ }
-{
-    let i = forms::ROW * row;
-    store(t, i, f[0]);
-    store(t, i + 1, f[1]);
-    store(t, i + 2, f[2]);
-    store(t, i + 3, f[3]);
-    store(t, i + 4, f[4]);
-    store(t, i + 5, f[5]);
-}
-
 fn pick(c: bool, a: u32, b: u32) -> u32
     ensures { λ r. ⌜ r ≡ cond c a b ⌝ }
 {
@@ -303,9 +270,9 @@ fn accept(p: Progress, f: [u32; 6], t: &mut [u32]) -> Progress
     ensures { λ r. ⌜ (r ≡ further p f (now (t .entry))) × (now (t .exit) ≡ placed p f (now (t .entry))) ⌝ }
 {
     let action = f[2] as usize;
-    let params = load(t, forms::ROW * (forms::ARITY_ROWS + action) + 1);
+    let params = forms::cell(t, forms::ARITY_ROWS + action, 1);
     let k = kind_at(p, f[0], f[1]);
-    put_row(t, k.row, f);
+    forms::put_row(t, k.row, f);
     advanced(p, k, f, params)
 }
 
@@ -440,9 +407,9 @@ pub fn read_target(table: &[u32], s: &[u8], t: &mut Form) -> Reply
     ensures { λ r. ⌜ (r ≡ replyOf (readTarget (now (table .entry)) (now (s .entry)))) × (now (t .exit) ≡ formOf (readTarget (now (table .entry)) (now (s .entry))) (now (t .entry))) ⌝ }
 {
     let p = Progress {
-        registers: load(table, forms::REGISTERS),
-        constants: load(table, forms::CONSTANTS),
-        locations: load(table, forms::LOCATIONS),
+        registers: forms::cell(table, forms::COUNTS_ROW, forms::REGISTERS),
+        constants: forms::cell(table, forms::COUNTS_ROW, forms::CONSTANTS),
+        locations: forms::cell(table, forms::COUNTS_ROW, forms::LOCATIONS),
         actions: 0,
         transitions: 0,
         stage: 3,

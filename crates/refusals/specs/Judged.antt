@@ -32,3 +32,8 @@ require passed r = cond passed (accepted tt) (refused r)
 abbrev pub left : {A B : Type 0} → Judged A → (A → B) → B → B
 left (accepted x) write before = write x
 left (refused r) write before = before
+
+-- an answer in numbers: what f says of what was read, or the refusal's number, file and line
+abbrev pub told : {A : Type 0} → (A → List ℕ) → Judged A → List ℕ
+told f (accepted x) = f x
+told f (refused r) = refusalNumbers r

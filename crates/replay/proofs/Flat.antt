@@ -20,7 +20,8 @@ use Rattle.lists.proofs.Arrays.{padded-length, padded-take}
 use Rattle.forms.proofs.Forms.{Limits, limits}
 use Rattle.replay.specs.declared.Step.{Step}
 use Rattle.replay.specs.declared.Verdict.the-variants.{Good}
-use Rattle.replay.specs.Judge.{restZero, takes, contentsOf, moveOf, tidy, Whole, stepFrom, stepsFrom, startIn, stepsIn, judge, judgeFlat, flatMove, flatRun, goodRun}
+use Rattle.replay.specs.Judge.{judge, judgeFlat}
+use Rattle.replay.specs.RunForm.{restZero, takes, contentsOf, moveOf, tidy, Whole, stepFrom, stepsFrom, startIn, stepsIn, flatMove, flatRun, goodRun}
 use Rattle.replay.proofs.Verdicts.{judge-means}
 
 -- Slots and padding
@@ -52,13 +53,13 @@ rest-padded (suc n) (x ∷ xs) = rest-padded n xs
 padStep : Move → Step
 padStep m = record { arc = m .transition; params = padded 3 (m .parameters); next = padded 5 (m .valuation) }
 
+pub flatMove-length : (m : Move) → length (flatMove m) ≡ 9
+flatMove-length m = omega (arith, length-append (padded 3 (m .parameters)) (padded 5 (m .valuation)), padded-length 3 (m .parameters), padded-length 5 (m .valuation))
+
 flat-length : (ms : List Move) → length (flatMap flatMove ms) ≡ 9 * length ms
 unfolding flatMap
 flat-length [] = refl
-flat-length (m ∷ ms) =
-    let p : List ℕ = padded 3 (m .parameters) in
-    let w : List ℕ = padded 5 (m .valuation) in
-    omega (arith, length-append (flatMove m) (flatMap flatMove ms), length-append p w, padded-length 3 (m .parameters), padded-length 5 (m .valuation), flat-length ms)
+flat-length (m ∷ ms) = omega (arith, length-append (flatMove m) (flatMap flatMove ms), flatMove-length m, flat-length ms)
 
 pub step-path : (s t : Step) → s .arc ≡ t .arc → s .params ≡ t .params → s .next ≡ t .next → s ≡ t
 step-path s t e p n = λ i. record { arc = e i; params = p i; next = n i }
@@ -92,11 +93,11 @@ steps-back (m ∷ ms) =
     cc
 
 -- a run in the flat form has the replayer's length
-flat-run-length : (v : List ℕ) (ms : List Move) → length (flatRun v ms) ≡ 5 + 9 * length ms
-flat-run-length v ms = omega (arith, length-append (padded 5 v) (flatMap flatMove ms), padded-length 5 v, flat-length ms)
+pub run-length : (v : List ℕ) (ms : List Move) → length (flatRun v ms) ≡ 5 + 9 * length ms
+run-length v ms = omega (arith, length-append (padded 5 v) (flatMap flatMove ms), padded-length 5 v, flat-length ms)
 
 pub run-whole : (v : List ℕ) (ms : List Move) → Whole (flatRun v ms)
-run-whole v ms = let l = flat-run-length v ms in record { start = omega arith; steps = omega arith }
+run-whole v ms = let l = run-length v ms in record { start = omega arith; steps = omega arith }
 
 module _ (a : Automaton) (lim : T (limited a)) where
   few : Limits a
@@ -174,7 +175,7 @@ module _ (a : Automaton) (lim : T (limited a)) where
   run-good v ms t =
       let xs : List ℕ = flatMap flatMove ms in
       let l : length (padded 5 v) ≡ 5 = padded-length 5 v in
-      let n : (length (flatRun v ms) - 5) / 9 ≡ length ms = omega (arith, flat-run-length v ms) in
+      let n : (length (flatRun v ms) - 5) / 9 ≡ length ms = omega (arith, run-length v ms) in
       let ss : stepsIn (flatRun v ms) ≡ map padStep ms = ap (λ k. stepsFrom k (drop 5 (flatRun v ms))) n ∙ ap (stepsFrom (length ms)) (drop-at (padded 5 v) xs 5 l) ∙ steps-back ms in
       let st : startIn (flatRun v ms) ≡ padded 5 v = take-at (padded 5 v) xs 5 l in
       let same : judgeFlat a (flatRun v ms) ≡ judge a (padded 5 v) (map padStep ms) = ap (λ w. judge a w (stepsIn (flatRun v ms))) st ∙ ap (judge a (padded 5 v)) ss in

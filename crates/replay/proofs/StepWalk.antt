@@ -13,7 +13,8 @@ use Rattle.automata.specs.Runs.{after, initial, transitionOf}
 use Rattle.replay.specs.declared.Step.{Step}
 use Rattle.replay.specs.declared.Progress.{Progress}
 use Rattle.replay.specs.declared.Verdict.the-variants.{Good, Bad}
-use Rattle.replay.specs.Judge.{contentsOf, moveOf, startGood, stepGood, judgeSteps, judge, stepFrom, stepsFrom}
+use Rattle.replay.specs.Judge.{startGood, stepGood, judgeSteps, judge}
+use Rattle.replay.specs.RunForm.{contentsOf, moveOf, stepFrom, stepsFrom}
 use Rattle.replay.specs.Progress.{stateOf, begun, stopped, advanced, through, judged}
 
 -- the steps of a flat list from index i on

@@ -11,7 +11,7 @@ use lib.Seq.{drop-cons, take-all}
 use Rattle.lists.specs.Searches.{allFrom}
 use Rattle.graphs.specs.Lists.{allOf, eqList}
 use Rattle.forms.specs.Slots.{valuesFrom}
-use Rattle.replay.specs.Judge.{restZero}
+use Rattle.replay.specs.RunForm.{restZero}
 
 pub and-path : {a b c d : Bool} → a ≡ b → c ≡ d → (a && c) ≡ (b && d)
 and-path e f = λ i. e i && f i

@@ -19,7 +19,8 @@ use Rattle.automata.specs.Runs.{State, isStep, after, permitted, initial, follo
 use Rattle.replay.specs.declared.Step.{Step}
 use Rattle.replay.specs.declared.Verdict.{Verdict}
 use Rattle.replay.specs.declared.Verdict.the-variants.{Good, Bad}
-use Rattle.replay.specs.Judge.{restZero, contentsOf, moveOf, tidy, startGood, stepGood, judgeSteps, judge, goodRun, FirstBad, Means}
+use Rattle.replay.specs.Judge.{startGood, stepGood, judgeSteps, judge, Means}
+use Rattle.replay.specs.RunForm.{restZero, contentsOf, moveOf, tidy, goodRun, FirstBad}
 
 -- from a state, the steps follow each other, and their unused slots are 0
 abbrev goodSteps : Automaton → State → List Step → Bool

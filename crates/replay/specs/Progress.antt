@@ -14,7 +14,8 @@ use Rattle.replay.specs.declared.Step.{Step}
 use Rattle.replay.specs.declared.Progress.{Progress}
 use Rattle.replay.specs.declared.Verdict.{Verdict}
 use Rattle.replay.specs.declared.Verdict.the-variants.{Good, Bad}
-use Rattle.replay.specs.Judge.{restZero, contentsOf, startGood, stepGood}
+use Rattle.replay.specs.Judge.{startGood, stepGood}
+use Rattle.replay.specs.RunForm.{restZero, contentsOf}
 
 -- where the replay is
 abbrev pub stateOf : Automaton → Progress → State

@@ -5,10 +5,11 @@ ghost use mathlib.Core.Bool.{_&&_};
 ghost use Prim.Native.Nat.{ℕ, _≤_, _<_};
 ghost use lib.Dec.{eqb};
 ghost use lib.ListN.{length, getD, take};
-ghost use Rattle.forms.specs.TableForm.{automatonOf};
+ghost use Rattle.forms.specs.FormAutomaton.{automatonOf};
 ghost use Rattle.forms.specs.Readable.{Readable};
 ghost use Rattle.forms.specs.Slots.{Fits};
-ghost use Rattle.replay.specs.Judge.{restZero, Whole, stepFrom, judge, judgeFlat};
+ghost use Rattle.replay.specs.Judge.{judge, judgeFlat};
+ghost use Rattle.replay.specs.RunForm.{restZero, Whole, stepFrom};
 ghost use Rattle.replay.specs.Progress.{begun, stopped, advanced, judged, slotValues, assignedSlots, madeBy};
 use forms::Arc;
 

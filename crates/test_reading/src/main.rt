@@ -1,49 +1,66 @@
-// Tries the boundary cases of reading: for each case of the data folder prints the case, and the refusal's number, file and line, or zeros.
+// Tries the boundary cases of reading: for each case of the data folder prints the case, the refusal's number, file and line, or zeros, and which files were there: 0 none, 1 the table, 3 the table and a target, 5 the table and a question.
 ghost use Rattle.forms.specs.Readable.{Readable};
 use libc::STDOUT_FILENO;
 use refusals::Refusal;
 
-// The files 001.table, 001.target, 001.question, .. of the data folder: a case has a table, and perhaps one of the others.
-const CASES: u32 = 127;
+// The files 001.table, 001.target, 001.question, .. of the data folder (engine/boundaries.py says what each case is): a case has a table, and perhaps one of the others. In cases 128 to 130 a folder stands in the place of a file; case 131 has none.
+const CASES: u32 = 131;
 
-// Zeros, where a file is read.
-fn nothing() -> Refusal {
-    Refusal {
+// The refusal's numbers, zeros where all is read, and the files that were there.
+struct Tried {
+    number: u32,
+    file: u32,
+    line: u32,
+    files: u32,
+}
+
+fn read(files: u32) -> Tried {
+    Tried {
         number: 0,
         file: 0,
         line: 0,
+        files: files,
     }
 }
 
-fn of_reply(reply: reader::Reply) -> Refusal {
-    match reply {
-        reader::Reply::Accepted => nothing(),
-        reader::Reply::Refused(r) => r,
+fn refused(r: Refusal, files: u32) -> Tried {
+    Tried {
+        number: r.number,
+        file: r.file,
+        line: r.line,
+        files: files,
     }
 }
 
-fn of_question(reply: questions::Reply) -> Refusal {
+fn of_reply(reply: reader::Reply, files: u32) -> Tried {
     match reply {
-        questions::Reply::Accepted(_) => nothing(),
-        questions::Reply::Refused(r) => r,
+        reader::Reply::Accepted => read(files),
+        reader::Reply::Refused(r) => refused(r, files),
+    }
+}
+
+fn of_question(reply: questions::Reply) -> Tried {
+    match reply {
+        questions::Reply::Accepted(_) => read(5),
+        questions::Reply::Refused(r) => refused(r, 5),
     }
 }
 
 // The target of a case, if it has one.
-fn try_target(form: &[u32], a: u8, b: u8, c: u8) -> Refusal {
+fn try_target(form: &[u32], a: u8, b: u8, c: u8) -> Tried {
     let file = os::open_read(&[a, b, c, b'.', b't', b'a', b'r', b'g', b'e', b't']);
     if file < 0 {
-        return nothing();
+        return read(1);
     }
     let mut bytes = io::buffer();
     let n = io::read_full(file, &mut bytes);
     libc::close(file);
     let mut target = [0u32; forms::LENGTH];
-    of_reply(reader::read_target(form, &bytes[..n], &mut target))
+    of_reply(reader::read_target(form, &bytes[..n], &mut target), 3)
 }
 
 // The question of a case, if it has one.
-fn try_question(form: &[u32], a: u8, b: u8, c: u8) -> Refusal
+fn try_question(form: &[u32], a: u8, b: u8, c: u8) -> Tried
     requires { ⌜ Readable (now form) ⌝ }
 {
     let file = os::open_read(
@@ -63,7 +80,7 @@ fn try_question(form: &[u32], a: u8, b: u8, c: u8) -> Refusal
         ],
     );
     if file < 0 {
-        return nothing();
+        return read(1);
     }
     let mut bytes = io::buffer();
     let n = io::read_full(file, &mut bytes);
@@ -76,10 +93,10 @@ fn try_question(form: &[u32], a: u8, b: u8, c: u8) -> Refusal
 }
 
 // The table of a case, and then its target or question.
-fn try_case(a: u8, b: u8, c: u8) -> Refusal {
+fn try_case(a: u8, b: u8, c: u8) -> Tried {
     let file = os::open_read(&[a, b, c, b'.', b't', b'a', b'b', b'l', b'e']);
     if file < 0 {
-        return nothing();
+        return read(0);
     }
     let mut bytes = io::large_buffer();
     let n = io::read_full(file, &mut bytes);
@@ -89,12 +106,12 @@ fn try_case(a: u8, b: u8, c: u8) -> Refusal {
     let reply = opening::open_table(&bytes[..n], &mut form, &mut labels);
     if let reader::Reply::Accepted = reply {
         let target = try_target(&form, a, b, c);
-        if 0 < target.number {
+        if target.files == 3 {
             return target;
         }
         return try_question(&form, a, b, c);
     }
-    of_reply(reply)
+    of_reply(reply, 1)
 }
 
 fn digit(n: u32) -> u8 {
@@ -102,13 +119,14 @@ fn digit(n: u32) -> u8 {
 }
 
 // Prints one case in columns.
-fn show(i: u32, r: Refusal) {
-    let mut line = [b' '; 25];
+fn show(i: u32, r: Tried) {
+    let mut line = [b' '; 31];
     columns::put(&mut line, 0, i);
     columns::put(&mut line, 6, r.number);
     columns::put(&mut line, 12, r.file);
     columns::put(&mut line, 18, r.line);
-    line[24] = 10;
+    columns::put(&mut line, 24, r.files);
+    line[30] = 10;
     io::write_all(STDOUT_FILENO, &line);
 }
 

@@ -1,158 +1,150 @@
-// Judges runs of the sample table, as steps and as flat lists: prints for each case its number, and of either verdict 1 for good and the first bad moment.
+// Tries the replayer: prints for each case its number, the reply of `checker::replay` to the list as it stands, and that of `checker::replay_steps` to its start and its steps.
+ghost use mathlib.Core.Path.{_≡_};
 ghost use Prim.Native.Nat.{_≤_};
-ghost use Rattle.forms.specs.Readable.{Readable};
-use libc::STDOUT_FILENO;
+ghost use lib.ListN.{take};
+ghost use Rattle.claims.specs.Replaying.{replayStepsReply};
+use checker::Replayed;
 use replay::Step;
-use replay::Verdict;
 
-// What is printed of a verdict: 1 and 0 where it is good, else 0 and the first bad moment.
-struct Shown {
-    good: u32,
-    moment: u32,
+// A case's header: three fields (the engine's src/trials/replayer.rs says what they are).
+const HEADER: usize = 51;
+
+// The first n of an array of steps by value, lent: whoever calls it holds no reference to a step.
+fn replay_first(table: &[u8], start: [u32; 5], run: [Step; 24], n: usize) -> Replayed
+    requires { ⌜ n ≤ 24 ⌝ }
+    ensures { λ r. ⌜ r ≡ replayStepsReply (now (table .entry)) start (take n run) ⌝ }
+{
+    checker::replay_steps(table, start, &run[..n])
 }
 
-fn numbers_of(v: Verdict) -> Shown {
-    match v {
-        Verdict::Good => Shown { good: 1, moment: 0 },
-        Verdict::Bad(moment) => Shown {
-            good: 0,
-            moment: (moment % 1000000) as u32,
+// A reply as it is printed: 1 good; 0 and the first bad moment; or 2 and the refusal's numbers.
+struct Shown {
+    reply: u32,
+    number: u32,
+    file: u32,
+    line: u32,
+}
+
+fn numbers_of(reply: Replayed) -> Shown {
+    match reply {
+        Replayed::Good => Shown {
+            reply: 1,
+            number: 0,
+            file: 0,
+            line: 0,
+        },
+        Replayed::Bad(moment) => Shown {
+            reply: 0,
+            number: (moment % 1000000) as u32,
+            file: 0,
+            line: 0,
+        },
+        Replayed::Refused(r) => Shown {
+            reply: 2,
+            number: r.number,
+            file: r.file,
+            line: r.line,
         },
     }
 }
 
-fn show(i: u32, steps: Verdict, list: Verdict) {
-    let a = numbers_of(steps);
-    let b = numbers_of(list);
-    let mut line = [b' '; 31];
-    columns::put(&mut line, 0, i);
-    columns::put(&mut line, 6, a.good);
-    columns::put(&mut line, 12, a.moment);
-    columns::put(&mut line, 18, b.good);
-    columns::put(&mut line, 24, b.moment);
-    line[30] = 10;
-    io::write_all(STDOUT_FILENO, &line);
+fn show(case: u32, list: Shown, steps: Shown) {
+    trial::show(
+        b"",
+        &[
+            case,
+            list.reply,
+            list.number,
+            list.file,
+            list.line,
+            steps.reply,
+            steps.number,
+            steps.file,
+            steps.line,
+        ],
+    );
 }
 
-// A step with one parameter, of a table with two registers.
-fn step(arc: u32, parameter: u32, first: u32, second: u32) -> Step {
+// The step in nine numbers from this place on.
+fn step_at(list: &[u32; 221], at: usize) -> Step {
+    let i = at % 213;
+    let params = [list[i + 1], list[i + 2], list[i + 3]];
+    let next = [
+        list[i + 4],
+        list[i + 5],
+        list[i + 6],
+        list[i + 7],
+        list[i + 8],
+    ];
     Step {
-        arc: arc,
-        params: [parameter, 0, 0],
-        next: [first, second, 0, 0, 0],
+        arc: list[i],
+        params: params,
+        next: next,
     }
 }
 
-// Writes a step to a flat list, from this place on.
-fn put_step(list: &mut [u32; 41], at: usize, s: Step)
-    requires { ⌜ at ≤ 32 ⌝ }
-{
-    let params = s.params;
-    let next = s.next;
-    list[at] = s.arc;
-    list[at + 1] = params[0];
-    list[at + 2] = params[1];
-    list[at + 3] = params[2];
-    list[at + 4] = next[0];
-    list[at + 5] = next[1];
-    list[at + 6] = next[2];
-    list[at + 7] = next[3];
-    list[at + 8] = next[4];
+// The steps of a list, behind its start.
+fn steps_of(list: &[u32; 221]) -> [Step; 24] {
+    let mut run = [step_at(list, 5); 24];
+    let mut i = 0;
+    while i < 24 {
+        run[i] = step_at(list, 5 + 9 * i);
+        i += 1;
+    }
+    run
 }
 
-// The replayer's flat list: the start, then the steps.
-fn flat(start: [u32; 5], run: [Step; 4]) -> [u32; 41] {
-    let mut list = [0u32; 41];
-    list[0] = start[0];
-    list[1] = start[1];
-    list[2] = start[2];
-    list[3] = start[3];
-    list[4] = start[4];
-    put_step(&mut list, 5, run[0]);
-    put_step(&mut list, 14, run[1]);
-    put_step(&mut list, 23, run[2]);
-    put_step(&mut list, 32, run[3]);
-    list
+// How many steps a list of this length has.
+fn steps_in(n: usize) -> usize
+    ensures { λ r. ⌜ r ≤ 24 ⌝ }
+{
+    if n < 5 {
+        return 0;
+    }
+    (n - 5) / 9 % 25
 }
 
-// Judges the first n steps in both forms.
-fn try_run(form: &[u32], i: u32, start: [u32; 5], run: [Step; 4], n: usize)
-    requires { ⌜ Readable (now form) × (n ≤ 4) ⌝ }
-{
-    let list = flat(start, run);
-    let end = 5 + 9 * n;
-    let steps = replay::replay_few(form, start, run, n);
-    show(i, steps, replay::replay(form, &list[..end]));
+// The reply to start and steps.
+fn try_steps(table: &[u8], list: &[u32; 221], n: usize) -> Shown {
+    let start = [list[0], list[1], list[2], list[3], list[4]];
+    numbers_of(replay_first(table, start, steps_of(list), steps_in(n)))
 }
 
-// The run of document 01 is good, and so is its start alone; then starts that are bad.
-fn try_starts(form: &[u32])
-    requires { ⌜ Readable (now form) ⌝ }
-{
-    let unused = step(0, 0, 0, 0);
-    let good = [step(1, 1, 1, 0), step(2, 2, 1, 2), unused, unused];
-    try_run(form, 1, [0, 0, 0, 0, 0], good, 2);
-    try_run(form, 2, [0, 0, 0, 0, 0], good, 0);
-    // not permitted
-    try_run(form, 3, [1, 0, 0, 0, 0], good, 2);
-    // an unused slot
-    try_run(form, 4, [0, 0, 7, 0, 0], good, 0);
+// The reply to the list.
+fn try_list(table: &[u8], list: &[u32]) -> Shown {
+    numbers_of(checker::replay(table, list))
 }
 
-// From the start of document 01, so many of these steps.
-fn try_steps(form: &[u32], i: u32, first: Step, second: Step, third: Step, n: usize)
-    requires { ⌜ Readable (now form) × (n ≤ 4) ⌝ }
-{
-    try_run(form, i, [0, 0, 0, 0, 0], [first, second, third, third], n);
+// The case behind a header: behind the table's bytes stand bytes 10.
+fn try_case(file: i32, header: &[u8; 51], case: u32) {
+    let mut table = [10u8; 41000];
+    let mut list = [0u32; 221];
+    trial::take(file, &mut table, trial::field(header, 0));
+    let bytes = trial::front8(&table, trial::field(header, 1) as usize);
+    let n = trial::take_numbers(file, trial::field(header, 2), &mut list);
+    let whole = try_list(bytes, trial::front(&list, n));
+    let steps = try_steps(bytes, &list, n);
+    show(case, whole, steps);
 }
 
-// First steps that are bad.
-fn try_first(form: &[u32])
-    requires { ⌜ Readable (now form) ⌝ }
-{
-    let revised = step(2, 2, 1, 2);
-    // transitions that the table does not have
-    try_steps(form, 5, step(0, 1, 1, 0), revised, revised, 2);
-    try_steps(form, 6, step(3, 1, 1, 0), revised, revised, 2);
-    // an unused slot of the parameters
-    let crowded = Step {
-        arc: 1,
-        params: [1, 9, 0],
-        next: [1, 0, 0, 0, 0],
-    };
-    try_steps(form, 7, crowded, revised, revised, 2);
-}
-
-// Later steps that are bad.
-fn try_later(form: &[u32])
-    requires { ⌜ Readable (now form) ⌝ }
-{
-    let translated = step(1, 1, 1, 0);
-    let revised = step(2, 2, 1, 2);
-    // the reviser is the translator
-    try_steps(form, 8, translated, step(2, 1, 1, 1), revised, 2);
-    // one step, and two, after the end
-    try_steps(form, 9, translated, revised, revised, 3);
-    try_steps(form, 10, translated, revised, revised, 4);
-}
-
-fn try_runs(form: &[u32])
-    requires { ⌜ Readable (now form) ⌝ }
-{
-    try_starts(form);
-    try_first(form);
-    try_later(form);
+// The next case, if there is one.
+fn next_case(file: i32, case: u32) -> bool {
+    let mut header = [b'0'; 51];
+    if io::read_full(file, &mut header) < HEADER {
+        return false;
+    }
+    try_case(file, &header, case);
+    true
 }
 
 fn main() {
-    let file = os::open_read(b"table.txt");
-    let mut bytes = io::large_buffer();
-    let n = io::read_full(file, &mut bytes);
-    libc::close(file);
-    let mut form = [0u32; forms::LENGTH];
-    let mut labels = [0u8; 3370];
-    let reply = opening::open_table(&bytes[..n], &mut form, &mut labels);
-    if let reader::Reply::Accepted = reply {
-        try_runs(&form);
+    let file = os::open_read(b"cases");
+    let mut case = 1;
+    while case <= 1000 {
+        if next_case(file, case) {
+            case += 1;
+        } else {
+            return;
+        }
     }
 }

@@ -1,12 +1,10 @@
 -- What is printed is right: the run is judged good by the replayer, it is a shortest to the target, and it fits the buffers; where none is printed, no run reaches the target.
 -- Assumes nothing.
-use Prim.Native.Nat.{ℕ, _+_, _*_, _<_}
-use mathlib.Core.List.{List}
+use Prim.Native.Nat.{_<_}
 use mathlib.Core.Option.{none, some}
-use mathlib.Core.Path.{_≡_, ap, _∙_, subst}
+use mathlib.Core.Path.{_≡_, subst}
 use lib.Dec.{T}
-use lib.ListN.{length, take, drop}
-use lib.Seq.{take-at}
+use lib.ListN.{length}
 use Rattle.graphs.specs.Search.{Walk, steps}
 use Rattle.automata.specs.Automaton.{Automaton}
 use Rattle.automata.specs.Runs.{Target, Shortest}
@@ -16,11 +14,10 @@ use Rattle.automata.specs.Answers.{nearestTo}
 use Rattle.moves.specs.PathMoves.{walkContents, walkMoves, RunAnswer}
 use Rattle.moves.proofs.PathMoves.{prints}
 use Rattle.moves.proofs.Limits.{limited-roomy}
-use Rattle.replay.specs.Judge.{judgeFlat, flatRun}
+use Rattle.replay.specs.Judge.{judgeFlat}
+use Rattle.replay.specs.RunForm.{flatRun}
 use Rattle.replay.specs.declared.Verdict.the-variants.{Good}
 use Rattle.replay.proofs.Flat.{run-good}
-use Rattle.witness.specs.Printed.{withRun}
-use Rattle.concretization.proofs.Pasting.{run-length}
 use Rattle.witness.proofs.Finding.{few-steps}
 
 -- what is said of the run along a walk
@@ -46,9 +43,3 @@ module _ (a : Automaton) (wf : T (wellFormed a)) (lim : T (limited a)) (g : Targ
 
   pub never-right : nearestTo a g ≡ none → meaning.Never a g
   never-right e = subst (RunAnswer 15 a g) e answer
-
-  -- the run is what stands in front of the buffer
-  pub run-front : (w : Walk) (e : nearestTo a g ≡ some w) (l : List ℕ) → take (5 + 9 * steps w) (withRun a (some w) l) ≡ flatRun (walkContents a w) (walkMoves 15 a w)
-  run-front w e l =
-      take-at (flatRun (walkContents a w) (walkMoves 15 a w)) (drop (5 + 9 * steps w) l) (5 + 9 * steps w)
-      (run-length (walkContents a w) (walkMoves 15 a w) ∙ ap (λ n. 5 + 9 * n) (printed-right w e .count))

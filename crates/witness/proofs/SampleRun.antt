@@ -2,14 +2,12 @@
 -- Assumes nothing.
 use Prim.Native.Nat.{ℕ}
 use mathlib.Core.List.{List, [], _∷_, flatMap}
-use mathlib.Core.Option.{some}
 use mathlib.Core.Path.{_≡_, refl, ap, _∙_}
 use lib.ListN.{length, getD}
 use Rattle.sets.specs.Packed.{wordOf, packedFrom}
-use Rattle.graphs.specs.Search.{Walk, nodes}
 use Rattle.graphs.specs.Search.Walk.{start, _▸_}
 use Rattle.graphs.proofs.Search.{queue-invariant}
-use Rattle.automata.specs.Configurations.{rows, starts}
+use Rattle.automata.specs.ConfigurationGraph.{rows, starts}
 use Rattle.automata.specs.Answers.{nearestTo}
 use Rattle.automata.specs.Examples.{sample, delivered}
 use Rattle.moves.specs.PathMoves.{walkContents, walkMoves}
@@ -18,27 +16,18 @@ use Rattle.reach.specs.Buffers.{reachedWords}
 use Rattle.reach.specs.Reaching.{found}
 use Rattle.reach.proofs.Queue.{counted}
 use Rattle.reach.proofs.StepGraph.{graph-fits}
-use Rattle.replay.specs.Judge.{flatRun}
+use Rattle.replay.specs.RunForm.{flatRun}
 use Rattle.witness.specs.declared.Answer.the-variants.{Reached}
 use Rattle.concretization.specs.RunLines.{runLines}
 use Rattle.witness.specs.Printed.{reachedCount, answerOf}
-
-abbrev walk : Walk
-walk = start 0 ▸ 7 ▸ 14
-
-sample-walk : nearestTo sample delivered ≡ some walk
-unfolding flatMap
-sample-walk = refl
-
-sample-nodes : nodes walk ≡ 0 ∷ 7 ∷ 14 ∷ []
-sample-nodes = refl
+use Rattle.moves.proofs.SampleMoves.{walk, sample-walk}
 
 -- three configurations are reachable: 0, 7 and 14
 sample-found : found sample ≡ start 0 ∷ start 0 ▸ 7 ∷ walk ∷ []
 unfolding found flatMap
 sample-found = refl
 
-sample-count : reachedCount sample ≡ 3
+pub sample-count : reachedCount sample ≡ 3
 unfolding found
 sample-count = counted (rows sample) (starts sample) (queue-invariant (rows sample) (starts sample) (length (rows sample))) 10784 (graph-fits sample tt) ∙ ap length sample-found
 

@@ -1,7 +1,7 @@
 -- `classification::class_of_matrix` meets its contract.
 -- Assumes nothing.
 use mathlib.Core.Path.{sym, ap, _∙_}
-use Rattle.classification.specs.declared.Number.the-variants.{Refused}
+use Rattle.refusals.specs.Judged.Judged.{refused}
 use Rattle.classification.proofs.ClassReplies.{number-not-taken, number-taken, number-found, number-none}
 use borrow.Author.Needs.{needs}
 use Rattle.classification.proofs.class_of_matrix.Statement.{statement}
@@ -21,7 +21,7 @@ returns-2 c =
 returns-3 : tie.Need-returns-3
 returns-3 c =
     let a = c .before .before .before .before .before .before .before .before .before .args in
-    ap Refused (c .refusal .ensures) ∙ number-none (a .registers) (a .constants) (a .matrix .now) _ (c .before .before .before .before .before .before .before .square .ensures) _ (c .before .before .before .before .before .before .test-counts .ensures) (c .before .before .before .before .enum-told .given .1) (sym (c .before .enum-told2 .given .1) ∙ c .before .before .before .class-of-matrix .ensures)
+    number-none (a .registers) (a .constants) (a .matrix .now) _ (c .before .before .before .before .before .before .before .square .ensures) _ (c .before .before .before .before .before .before .test-counts .ensures) (c .before .before .before .before .enum-told .given .1) (sym (c .before .enum-told2 .given .1) ∙ c .before .before .before .class-of-matrix .ensures) _ (sym (ap refused (c .refusal .ensures)))
 
 pub class-of-matrix-spec : {M : Type 1} → statement M
 class-of-matrix-spec =

@@ -1,11 +1,9 @@
 -- `classification::contents_of` meets its contract.
 -- Assumes nothing.
 use Prim.Native.Nat.{_<_}
-use mathlib.Core.Path.{ap, _∙_}
 use native.Mathlib.Omega.{arith}
 use lib.ListN.{length}
 use Rattle.classes.specs.Classes.{lists}
-use Rattle.classification.specs.declared.Written.the-variants.{Refused}
 use Rattle.classification.proofs.ClassReplies.{list-legal, given-back, contents-refused, contents-taken, contents-out-of-range, contents-done}
 use borrow.Author.Needs.{needs}
 use Rattle.classification.proofs.contents_of.Statement.{statement}
@@ -20,8 +18,7 @@ class-count-requires c κs =
 returns : tie.Need-returns
 returns c =
     let a = c .before .before .before .before .before .before .before .before .args in
-    let (r, w) = contents-out-of-range (a .registers) (a .constants .now) (a .class) (a .out .now) _ (c .before .before .before .before .before .test-lists .ensures) (c .before .before .before .enum-told .given .1) (omega (arith, c .before .if1 .taken, c .before .before .class-count .ensures)) in
-    (ap Refused (c .refusal .ensures) ∙ r, w)
+    contents-out-of-range (a .registers) (a .constants .now) (a .class) (a .out .now) _ (c .before .before .before .before .before .test-lists .ensures) (c .before .before .before .enum-told .given .1) (omega (arith, c .before .if1 .taken, c .before .before .class-count .ensures)) _ (c .refusal .ensures)
 
 class-list-requires : tie.Need-class-list-requires
 class-list-requires c κs =

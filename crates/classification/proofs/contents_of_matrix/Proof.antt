@@ -2,7 +2,7 @@
 -- Assumes nothing.
 use mathlib.Core.Path.{sym, ap, _∙_}
 use lib.ListN.{length}
-use Rattle.classification.specs.declared.Written.the-variants.{Refused}
+use Rattle.refusals.specs.Judged.Judged.{refused}
 use Rattle.classification.proofs.ClassReplies.{list-legal, given-back, class-listed, back-refused, back-taken, back-none, back-done}
 use borrow.Author.Needs.{needs}
 use Rattle.classification.proofs.contents_of_matrix.Statement.{statement}
@@ -51,8 +51,7 @@ returns-2 c =
 returns-3 : tie.Need-returns-3
 returns-3 c =
     let a = c .before .before .before .before .before .before .before .before .before .before .before .args in
-    let (r, w) = back-none (a .registers) (a .constants .now) (a .matrix .now) (a .out .now) _ (c .before .before .before .before .before .before .before .square .ensures) _ (c .before .before .before .before .before .before .test-lists .ensures) (c .before .before .before .before .enum-told .given .1) (sym (c .before .enum-told2 .given .1) ∙ c .before .before .before .class-of-matrix .ensures) in
-    (ap Refused (c .refusal .ensures) ∙ r, w)
+    back-none (a .registers) (a .constants .now) (a .matrix .now) (a .out .now) _ (c .before .before .before .before .before .before .before .square .ensures) _ (c .before .before .before .before .before .before .test-lists .ensures) (c .before .before .before .before .enum-told .given .1) (sym (c .before .enum-told2 .given .1) ∙ c .before .before .before .class-of-matrix .ensures) _ (sym (ap refused (c .refusal .ensures)))
 
 pub contents-of-matrix-spec : {M : Type 1} → statement M
 contents-of-matrix-spec =

@@ -18,9 +18,6 @@ abbrev μ-loop : tie.MeasureT-loop
 loop-holds : tie.Need-loop-holds Inv-loop μ-loop
 loop-holds c = copied-first (c .args .contents .now) (c .pre)
 
-array-write-list : tie.Need-array-write-list Inv-loop μ-loop
-array-write-list c = omega (arith, c .before .before .loop .inv .fits)
-
 loop-again : tie.Need-loop-again Inv-loop μ-loop
 loop-again c = let l = c .before .before .loop in copied-next (c .before .before .before .args .contents .now) (l .list) (l .i) _ (l .inv) (omega arith) refl
 
@@ -37,7 +34,7 @@ five-spec =
     (λ c. search needs)
     (λ c. search needs)
     (λ c. search needs)
-    array-write-list
+    (λ c. omega (arith, c .before .before .loop .inv .fits))
     (λ c. search needs)
     (λ c. search needs)
     loop-again

@@ -1,8 +1,6 @@
 -- `classification::matrix_of_class` meets its contract.
 -- Assumes nothing.
-use mathlib.Core.Path.{ap, _∙_}
 use native.Mathlib.Omega.{arith}
-use Rattle.classification.specs.declared.Written.the-variants.{Refused}
 use Rattle.classification.proofs.ClassReplies.{class-matrix-refused, class-matrix-taken, class-matrix-out-of-range, class-matrix-done}
 use borrow.Author.Needs.{needs}
 use Rattle.classification.proofs.matrix_of_class.Statement.{statement}
@@ -17,8 +15,7 @@ class-count-requires c κs =
 returns : tie.Need-returns
 returns c =
     let a = c .before .before .before .before .before .before .before .before .args in
-    let (r, w) = class-matrix-out-of-range (a .registers) (a .constants) (a .class) (a .out .now) _ (c .before .before .before .before .before .before .square .ensures) _ (c .before .before .before .before .before .test-counts .ensures) (c .before .before .before .enum-told .given .1) (omega (arith, c .before .if1 .taken, c .before .before .class-count .ensures)) in
-    (ap Refused (c .refusal .ensures) ∙ r, w)
+    class-matrix-out-of-range (a .registers) (a .constants) (a .class) (a .out .now) _ (c .before .before .before .before .before .before .square .ensures) _ (c .before .before .before .before .before .test-counts .ensures) (c .before .before .before .enum-told .given .1) (omega (arith, c .before .if1 .taken, c .before .before .class-count .ensures)) _ (c .refusal .ensures)
 
 class-list-requires : tie.Need-class-list-requires
 class-list-requires c κs =

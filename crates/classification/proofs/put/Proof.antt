@@ -1,56 +1,22 @@
--- `classification::put` meets its contract. The loop copies one number after another.
+-- `classification::put` meets its contract.
 -- Assumes nothing.
 use borrow.Author.Needs.{needs}
-use Rattle.catalogue.proofs.Copying.{overlay, overlay-next, overlay-all}
-use lib.Seq.{length-take-le, getD-take}
-use mathlib.Core.Path.{_≡_, refl, _∙_}
-use lib.ListN.{length, take, length-set}
-use Prim.Native.Nat.{_-_, _≤_}
+use mathlib.Core.Path.{_≡_, sym, _∙_}
+use lib.ListN.{length, take}
+use lib.Seq.{length-take-le}
 use native.Mathlib.Omega.{arith}
+use Rattle.lists.proofs.Arrays.{paste-front}
 use Rattle.classification.proofs.put.Statement.{statement}
 use Rattle.classification.proofs.put.Tie as tie
 
-abbrev Inv-loop : tie.InvT-loop
-Inv-loop n out₀ list i₀ out i = (i ≤ n) × (length out ≡ length out₀) × (out ≡ overlay (take n list) out₀ i)
+slice-aggregate-put : tie.Need-slice-aggregate-put
+slice-aggregate-put c = let a = c .before .before .before .args in let five : length (a .t1) ≡ 5 = search needs in sym (length-take-le (a .n) (a .t1) (omega arith))
 
-abbrev μ-loop : tie.MeasureT-loop
-μ-loop n out₀ list i₀ out i = n - i
+put-requires : tie.Need-put-requires
+put-requires c κs = let a = c .before .before .before .args in let five : length (a .t1) ≡ 5 = search needs in omega (arith, length-take-le (a .n) (a .t1) (omega arith))
 
-loop-holds : tie.Need-loop-holds Inv-loop μ-loop
-loop-holds c = (omega arith, refl, refl)
-
-loop-again : tie.Need-loop-again Inv-loop μ-loop
-loop-again c =
-    let a = c .before .before .args in
-    let l = c .before .loop in
-    let five : length (a .t1) ≡ 5 = search needs in
-    let lt = length-take-le (a .n) (a .t1) (omega arith) in (
-      omega arith,
-      simp length-set (l .inv .1),
-      rw (l .inv .2) (overlay-next (take (a .n) (a .t1)) (a .out .now) (l .i) _ (omega arith) (omega arith) (getD-take (a .n) (a .t1) (l .i) 0 (omega arith))),
-    )
-
-returns : tie.Need-returns Inv-loop μ-loop
-returns c =
-    let a = c .before .before .args in
-    let l = c .before .loop in
-    let five : length (a .t1) ≡ 5 = search needs in
-    let lt = length-take-le (a .n) (a .t1) (omega arith) in
-    l .inv .2 ∙ overlay-all (take (a .n) (a .t1)) (a .out .now) (l .i) (omega arith)
+returns : tie.Need-returns
+returns c = let a = c .before .before .before .before .before .before .args in c .before .before .put .ensures ∙ paste-front (take (a .n) (a .t1)) (a .out .now)
 
 pub put-spec : {M : Type 1} → statement M
-put-spec =
-    tie.close
-    (tie.spec
-    Inv-loop
-    μ-loop
-    loop-holds
-    (λ c. search needs)
-    (λ c. search needs)
-    (λ c. search needs)
-    (λ c. search needs)
-    (λ c. search needs)
-    (λ c. search needs)
-    loop-again
-    (λ c. search needs)
-    returns)
+put-spec = tie.close (tie.spec (λ c. search needs) slice-aggregate-put put-requires (λ c. search needs) returns)

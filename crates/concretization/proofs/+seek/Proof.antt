@@ -56,9 +56,6 @@ seek-Inv-loop arc base wanted pool depth seen vals f i₀ i =
 abbrev seek-μ-loop : seek-lts.MeasureT-loop
 seek-μ-loop arc base wanted pool depth seen vals f i₀ i = length pool - i
 
-seek-cast-if1 : (t : ℕ) → seek-lts.Need-cast-if1 (claims t) (seek-at t) seek.Post seek-Inv-loop seek-μ-loop
-seek-cast-if1 t c = let e = c .before .before in omega (arith, e .pre .1 .0 .few)
-
 seek-judge-requires : (t : ℕ) → seek-lts.Need-judge-requires (claims t) (seek-at t) seek.Post seek-Inv-loop seek-μ-loop
 seek-judge-requires t c κs = let e = c .before .before .before in (e .pre .1 .0, e .pre .1 .1)
 
@@ -77,26 +74,8 @@ seek-loop-holds t c =
     let a = e .args in
     (omega arith, ap (first (suits (a .arc) (known (a .base)) (a .wanted))) (tries-first (a .pool .now) (a .arc .params) (a .depth) (7 + a .depth) (known (a .seen)) (a .vals) (omega (arith, e .pre .1 .2, c .before .if1 .left))))
 
-seek-mul-x : (t : ℕ) → seek-lts.Need-mul-x (claims t) (seek-at t) seek.Post seek-Inv-loop seek-μ-loop
-seek-mul-x t c = omega arith
-
-seek-shared-slice-read-x : (t : ℕ) → seek-lts.Need-shared-slice-read-x (claims t) (seek-at t) seek.Post seek-Inv-loop seek-μ-loop
-seek-shared-slice-read-x t c = omega (arith, c .before .loop-test .taken)
-
 seek-worth-trying-requires : (t : ℕ) → seek-lts.Need-worth-trying-requires (claims t) (seek-at t) seek.Post seek-Inv-loop seek-μ-loop
 seek-worth-trying-requires t c κs = let e = c .before .before .before .before .before .before .before in (tidy-wider (12 + e .args .depth) (e .args .seen) (e .pre .1 .3) 17 (omega (arith, e .pre .1 .2, e .pre .1 .0 .few)), c .before .before .before .smallest-other .ensures)
-
-seek-add-w : (t : ℕ) → seek-lts.Need-add-w (claims t) (seek-at t) seek.Post seek-Inv-loop seek-μ-loop
-seek-add-w t c = let e = c .before .before .before .before .before .before .before .before .before in omega (arith, e .pre .1 .0 .few, e .pre .1 .2, c .before .before .before .before .before .before .if1 .left)
-
-seek-mul-w : (t : ℕ) → seek-lts.Need-mul-w (claims t) (seek-at t) seek.Post seek-Inv-loop seek-μ-loop
-seek-mul-w t c = let e = c .before .before .before .before .before .before .before .before .before in omega (arith, e .pre .1 .0 .few, e .pre .1 .2, c .before .before .before .before .before .before .if1 .left)
-
-seek-array-write-w : (t : ℕ) → seek-lts.Need-array-write-w (claims t) (seek-at t) seek.Post seek-Inv-loop seek-μ-loop
-seek-array-write-w t c = let e = c .before .before .before .before .before .before .before .before .before in omega (arith, e .pre .1 .0 .few, e .pre .1 .2, c .before .before .before .before .before .before .if1 .left)
-
-seek-add-seek : (t : ℕ) → seek-lts.Need-add-seek (claims t) (seek-at t) seek.Post seek-Inv-loop seek-μ-loop
-seek-add-seek t c = let e = c .before .before .before .before .before .before .before .before .before in omega (arith, e .pre .1 .0 .few, e .pre .1 .2, c .before .before .before .before .before .before .if1 .left)
 
 seek-note-requires : (t : ℕ) → seek-lts.Need-note-requires (claims t) (seek-at t) seek.Post seek-Inv-loop seek-μ-loop
 seek-note-requires t c κs = let e = c .before .before .before .before .before .before .before .before .before in tidy-wider (12 + e .args .depth) (e .args .seen) (e .pre .1 .3) 16 (omega (arith, e .pre .1 .0 .few, e .pre .1 .2))
@@ -128,12 +107,6 @@ seek-returns-2 t c =
     turn-finds (a .pool .now) m (7 + a .depth) (known (a .seen)) (a .vals) (l .i) (c .before .before .before .before .before .before .loop-test .taken) p (c .before .seek .result)
     (sym (c .before .before .before .before .worth-trying .ensures) ∙ c .before .before .before .if2 .taken) found (c .if3 .taken)
     ∙ ap foundOf (l .inv .1)
-
-seek-add-i : (t : ℕ) → seek-lts.Need-add-i (claims t) (seek-at t) seek.Post seek-Inv-loop seek-μ-loop
-seek-add-i t c = omega (arith, c .before .before .before .loop-test .taken)
-
-seek-loop-less : (t : ℕ) → seek-lts.Need-loop-less (claims t) (seek-at t) seek.Post seek-Inv-loop seek-μ-loop
-seek-loop-less t c = omega (arith, c .before .before .before .loop-test .taken)
 
 seek-loop-again : (t : ℕ) → seek-lts.Need-loop-again (claims t) (seek-at t) seek.Post seek-Inv-loop seek-μ-loop
 seek-loop-again t c =
@@ -168,22 +141,22 @@ pub +seek-spec : {M : Type 1} → statement M
     seek.Post
     seek-Inv-loop
     seek-μ-loop
-    (seek-cast-if1 t)
+    (λ c. let e = c .before .before in omega (arith, e .pre .1 .0 .few))
     (seek-judge-requires t)
     (seek-returns t)
     (seek-smallest-other-requires t)
     (seek-loop-holds t)
-    (seek-mul-x t)
-    (seek-shared-slice-read-x t)
+    (λ c. omega arith)
+    (λ c. omega (arith, c .before .loop-test .taken))
     (seek-worth-trying-requires t)
-    (seek-add-w t)
-    (seek-mul-w t)
-    (seek-array-write-w t)
-    (seek-add-seek t)
+    (λ c. let e = c .before .before .before .before .before .before .before .before .before in omega (arith, e .pre .1 .0 .few, e .pre .1 .2, c .before .before .before .before .before .before .if1 .left))
+    (λ c. let e = c .before .before .before .before .before .before .before .before .before in omega (arith, e .pre .1 .0 .few, e .pre .1 .2, c .before .before .before .before .before .before .if1 .left))
+    (λ c. let e = c .before .before .before .before .before .before .before .before .before in omega (arith, e .pre .1 .0 .few, e .pre .1 .2, c .before .before .before .before .before .before .if1 .left))
+    (λ c. let e = c .before .before .before .before .before .before .before .before .before in omega (arith, e .pre .1 .0 .few, e .pre .1 .2, c .before .before .before .before .before .before .if1 .left))
     (seek-note-requires t)
     (seek-seek-requires t)
     (seek-returns-2 t)
-    (seek-add-i t)
-    (seek-loop-less t)
+    (λ c. omega (arith, c .before .before .before .loop-test .taken))
+    (λ c. omega (arith, c .before .before .before .loop-test .taken))
     (seek-loop-again t)
     (seek-returns-3 t)

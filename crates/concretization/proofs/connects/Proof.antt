@@ -6,7 +6,7 @@ use mathlib.Core.Path.{sym, ap, ap₂, _∙_}
 use borrow.Author.Tests.{eq-eqb, ne-eqb}
 use lib.Dec.{eqb}
 use Rattle.automata.specs.Runs.{transitionOf}
-use Rattle.forms.specs.TableForm.{automatonOf}
+use Rattle.forms.specs.FormAutomaton.{automatonOf}
 use borrow.Author.Needs.{needs}
 use Rattle.concretization.proofs.connects.Statement.{statement}
 use Rattle.concretization.proofs.connects.Tie as tie

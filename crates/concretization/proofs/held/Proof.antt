@@ -10,9 +10,6 @@ use borrow.Author.Needs.{needs}
 use Rattle.concretization.proofs.held.Statement.{statement}
 use Rattle.concretization.proofs.held.Tie as tie
 
-cast-scan : tie.Need-cast-scan
-cast-scan c = omega (arith, c .before .before .before .before .pre .0 .sets-fit)
-
 scan-requires : tie.Need-scan-requires
 scan-requires c κs =
     let e = c .before .before .before .before in
@@ -27,4 +24,4 @@ returns c =
 pub held-spec : {M : Type 1} → statement M
 held-spec =
     tie.close
-    (tie.spec (λ c κs. search needs) (λ c κs. search needs) cast-scan scan-requires returns)
+    (tie.spec (λ c κs. search needs) (λ c κs. search needs) (λ c. omega (arith, c .before .before .before .before .pre .0 .sets-fit)) scan-requires returns)

@@ -13,12 +13,6 @@ use borrow.Author.Needs.{needs}
 use Rattle.concretization.proofs.judge.Statement.{statement}
 use Rattle.concretization.proofs.judge.Tie as tie
 
-holds-requires : tie.Need-holds-requires
-holds-requires c κs = c .before .before .pre .0 .guard-fits
-
-cast-scan : tie.Need-cast-scan
-cast-scan c = omega (arith, c .before .before .before .before .before .before .pre .0 .sets-fit)
-
 scan-requires : tie.Need-scan-requires
 scan-requires c κs = let e = c .before .before .before .before .before .before in (tidy-wider 2 (e .args .base) (e .pre .1) 12 (omega arith), e .pre .0 .sets-fit, e .pre .0 .source-fits)
 
@@ -49,8 +43,8 @@ pub judge-spec : {M : Type 1} → statement M
 judge-spec =
     tie.close
     (tie.spec
-    holds-requires
-    cast-scan
+    (λ c κs. c .before .before .pre .0 .guard-fits)
+    (λ c. omega (arith, c .before .before .before .before .before .before .pre .0 .sets-fit))
     scan-requires
     (λ c. search needs)
     (λ c. search needs)

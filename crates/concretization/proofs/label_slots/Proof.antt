@@ -6,8 +6,5 @@ use borrow.Author.Needs.{needs}
 use Rattle.concretization.proofs.label_slots.Statement.{statement}
 use Rattle.concretization.proofs.label_slots.Tie as tie
 
-returns : tie.Need-returns
-returns c = c .slots .ensures ∙ ap labelSlots (c .before .wide-labels .ensures)
-
 pub label-slots-spec : {M : Type 1} → statement M
-label-slots-spec = tie.close (tie.spec (λ c κs. search needs) (λ c κs. search needs) returns)
+label-slots-spec = tie.close (tie.spec (λ c κs. search needs) (λ c κs. search needs) (λ c. c .slots .ensures ∙ ap labelSlots (c .before .wide-labels .ensures)))

@@ -11,21 +11,6 @@ use borrow.Author.Needs.{needs}
 use Rattle.concretization.proofs.move_by.Statement.{statement}
 use Rattle.concretization.proofs.move_by.Tie as tie
 
-connects-requires : tie.Need-connects-requires
-connects-requires c κs = let e = c .before in (e .pre .0 .readable, e .pre .1)
-
-arc-at-requires : tie.Need-arc-at-requires
-arc-at-requires c κs = let e = c .before .before .before in (e .pre .0 .readable, e .pre .1)
-
-registers-requires : tie.Need-registers-requires
-registers-requires c κs = c .before .before .before .before .pre .0 .readable
-
-constants-requires : tie.Need-constants-requires
-constants-requires c κs = c .before .before .before .before .before .pre .0 .readable
-
-constant-values-requires : tie.Need-constant-values-requires
-constant-values-requires c κs = c .before .before .before .before .before .before .pre .0 .readable
-
 parameters-requires : tie.Need-parameters-requires
 parameters-requires c κs =
     let e = c .before .before .before .before .before .before .before in
@@ -78,11 +63,11 @@ pub move-by-spec : {M : Type 1} → statement M
 move-by-spec =
     tie.close
     (tie.spec
-    connects-requires
-    arc-at-requires
-    registers-requires
-    constants-requires
-    constant-values-requires
+    (λ c κs. let e = c .before in (e .pre .0 .readable, e .pre .1))
+    (λ c κs. let e = c .before .before .before in (e .pre .0 .readable, e .pre .1))
+    (λ c κs. c .before .before .before .before .pre .0 .readable)
+    (λ c κs. c .before .before .before .before .before .pre .0 .readable)
+    (λ c κs. c .before .before .before .before .before .before .pre .0 .readable)
     parameters-requires
     renewed-requires
     cast-t20

@@ -7,7 +7,8 @@ use native.Mathlib.Omega.{arith}
 use Rattle.lists.specs.Arrays.{padded}
 use Rattle.lists.proofs.Arrays.{padded-length}
 use Rattle.graphs.specs.Lists.{upFrom}
-use Rattle.classes.specs.Classes.{labels, notes}
+use Rattle.classes.specs.Classes.{labels}
+use Rattle.classes.specs.Contents.{notes}
 use Rattle.moves.specs.Moves.{pool}
 use Rattle.forms.specs.Slots.{valuesFrom}
 use Rattle.labelling.specs.Noted.{known, seenOf}
@@ -20,16 +21,10 @@ use borrow.Author.Needs.{needs}
 use Rattle.concretization.proofs.parameters.Statement.{statement}
 use Rattle.concretization.proofs.parameters.Tie as tie
 
-held-requires : tie.Need-held-requires
-held-requires c κs = let e = c .before .before in (e .pre .0, e .pre .1)
-
 labels-of-requires : tie.Need-labels-of-requires
 labels-of-requires c κs =
     let e = c .before .before .before .before in
     (constants-tidy (e .args .c) (e .args .constants) (e .pre .1) (c .before .before .before .constants-seen .ensures) 12 (omega (arith, e .pre .1)), e .pre .2)
-
-choices-requires : tie.Need-choices-requires
-choices-requires c κs = c .before .before .before .before .before .before .pre .1
 
 array-share-prefix-ids : tie.Need-array-share-prefix-ids
 array-share-prefix-ids c =
@@ -77,9 +72,9 @@ parameters-spec =
     (tie.spec
     (λ c κs. search needs)
     (λ c κs. search needs)
-    held-requires
+    (λ c κs. let e = c .before .before in (e .pre .0, e .pre .1))
     labels-of-requires
-    choices-requires
+    (λ c κs. c .before .before .before .before .before .before .pre .1)
     array-share-prefix-ids
     slice-aggregate-seek
     seek-requires

@@ -8,9 +8,6 @@ use Rattle.labelling.specs.Noted.{seenOf, known}
 use Rattle.concretization.proofs.push_large.Statement.{statement}
 use Rattle.concretization.proofs.push_large.Tie as tie
 
-push-requires : tie.Need-push-requires
-push-requires c κs = c .before .pre
-
 returns : tie.Need-returns
 returns c =
     let e = c .before .before .args in
@@ -22,4 +19,4 @@ returns-2 c =
     c .before .pre .same ∙ ap (λ b. seenOf (cond b (known (e .s) ++ (e .x ∷ [])) (known (e .s)))) (sym (lt-leb 15 (e .x) (c .if1 .left)))
 
 pub push-large-spec : {M : Type 1} → statement M
-push-large-spec = tie.close (tie.spec push-requires returns returns-2)
+push-large-spec = tie.close (tie.spec (λ c κs. c .before .pre) returns returns-2)

@@ -8,30 +8,23 @@ use native.Mathlib.Omega.{arith}
 use Rattle.lists.specs.Arrays.{padded}
 use Rattle.lists.proofs.Arrays.{padded-at}
 use Rattle.graphs.specs.Lists.{upFrom}
-use Rattle.classes.specs.Classes.{labels, notes}
+use Rattle.classes.specs.Classes.{labels}
+use Rattle.classes.specs.Contents.{notes}
 use Rattle.forms.specs.Slots.{valuesFrom}
 use Rattle.labelling.specs.Noted.{known, seenOf}
 use Rattle.labelling.proofs.Noted.{constants-tidy, constants-known, labelled-tidy, labelled-known, labelled-labels}
 use Rattle.concretization.specs.Parameters.{labelSlots}
-use Rattle.concretization.proofs.SlotValues.{values-length, marks-tidy, marks-known, labels-positive}
+use Rattle.forms.proofs.TermValues.{values-length}
+use Rattle.concretization.proofs.SlotValues.{marks-tidy, marks-known, labels-positive}
 use Rattle.concretization.proofs.ParameterSearch.{renewed-is}
 use borrow.Author.Needs.{needs}
 use Rattle.concretization.proofs.renewed.Statement.{statement}
 use Rattle.concretization.proofs.renewed.Tie as tie
 
-constants-seen-requires : tie.Need-constants-seen-requires
-constants-seen-requires c κs = c .before .pre .1
-
-cast-scan : tie.Need-cast-scan
-cast-scan c = omega (arith, c .before .before .before .pre .0 .sets-fit)
-
 scan-requires : tie.Need-scan-requires
 scan-requires c κs =
     let e = c .before .before .before in
     (constants-tidy (e .args .c) (e .args .constants) (e .pre .1) (c .before .constants-seen .ensures) 12 (omega (arith, e .pre .1)), e .pre .0 .sets-fit, e .pre .0 .source-fits)
-
-held-requires : tie.Need-held-requires
-held-requires c κs = let e = c .before .before .before .before .before in (e .pre .0, e .pre .1)
 
 labels-of-requires : tie.Need-labels-of-requires
 labels-of-requires c κs =
@@ -87,10 +80,10 @@ pub renewed-spec : {M : Type 1} → statement M
 renewed-spec =
     tie.close
     (tie.spec
-    constants-seen-requires
-    cast-scan
+    (λ c κs. c .before .pre .1)
+    (λ c. omega (arith, c .before .before .before .pre .0 .sets-fit))
     scan-requires
-    held-requires
+    (λ c κs. let e = c .before .before .before .before .before in (e .pre .0, e .pre .1))
     (λ c κs. search needs)
     labels-of-requires
     identifiers-of-requires

@@ -6,12 +6,6 @@ use Rattle.concretization.proofs.SlotValues.{values-front}
 use Rattle.concretization.proofs.scan.Statement.{statement}
 use Rattle.concretization.proofs.scan.Tie as tie
 
-values-at-requires : tie.Need-values-at-requires
-values-at-requires c κs = (c .pre .1, c .pre .2)
-
-labels-of-requires : tie.Need-labels-of-requires
-labels-of-requires c κs = (c .before .pre .0, c .before .pre .1)
-
 returns : tie.Need-returns
 returns c =
     let e = c .before .before in
@@ -19,4 +13,4 @@ returns c =
     c .labels-of .ensures ∙ ap (labelled (a .s)) (values-front (a .vals) (a .slots) (a .n) (e .pre .1) (c .before .values-at .ensures))
 
 pub scan-spec : {M : Type 1} → statement M
-scan-spec = tie.close (tie.spec values-at-requires labels-of-requires returns)
+scan-spec = tie.close (tie.spec (λ c κs. (c .pre .1, c .pre .2)) (λ c κs. (c .before .pre .0, c .before .pre .1)) returns)

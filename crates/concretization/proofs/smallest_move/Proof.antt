@@ -6,7 +6,7 @@ use lib.ListN.{length}
 use native.Mathlib.Omega.{arith}
 use Rattle.lists.specs.Arrays.{padded}
 use Rattle.moves.specs.Moves.{smallestFrom, smallest}
-use Rattle.forms.specs.TableForm.{automatonOf}
+use Rattle.forms.specs.FormAutomaton.{automatonOf}
 use Rattle.concretization.specs.SmallestMove.{stateAt, classAt, paddedMove}
 use Rattle.concretization.proofs.SmallestMoves.{smallest-here, smallest-later, smallest-left, smallest-next, smallest-none}
 use Rattle.concretization.proofs.smallest_move.Statement.{statement}
@@ -21,9 +21,6 @@ Inv-loop form from contents to next n i₀ i =
 abbrev μ-loop : tie.MeasureT-loop
 μ-loop form from contents to next n i₀ i = n - i
 
-transitions-requires : tie.Need-transitions-requires Inv-loop μ-loop
-transitions-requires c κs = c .before .pre .readable
-
 loop-holds : tie.Need-loop-holds Inv-loop μ-loop
 loop-holds c =
     let a = c .before .before .args in
@@ -31,9 +28,6 @@ loop-holds c =
     let n = c .transitions .result in
     let z : n - 0 ≡ length (m .transitions) = omega (arith, c .transitions .ensures .0) in
     (omega arith, c .transitions .ensures .0, ap (smallestFrom 15 m (stateAt m (a .from) (a .contents)) (classAt m (a .to) (a .next)) 1) z)
-
-move-by-requires : tie.Need-move-by-requires Inv-loop μ-loop
-move-by-requires c κs = let l = c .before .loop in (c .before .before .before .before .pre, omega (arith, l .inv .1, c .loop-test .taken))
 
 returns : tie.Need-returns Inv-loop μ-loop
 returns c =
@@ -45,12 +39,6 @@ returns c =
     let n = c .before .before .before .before .before .transitions .result in
     let r = c .before .before .move-by in
     smallest-here m s d (l .i) (n - (l .i + 1)) (r .result) (r .ensures) (c .if1 .taken) ∙ ap paddedMove (smallest-left m s d (l .i) n (c .before .before .before .loop-test .taken) ∙ l .inv .2)
-
-add-i : tie.Need-add-i Inv-loop μ-loop
-add-i c = omega (arith, c .before .before .before .loop-test .taken, c .before .before .before .before .before .transitions .ensures .1)
-
-loop-less : tie.Need-loop-less Inv-loop μ-loop
-loop-less c = omega (arith, c .before .before .before .loop-test .taken)
 
 loop-again : tie.Need-loop-again Inv-loop μ-loop
 loop-again c =
@@ -81,11 +69,11 @@ smallest-move-spec =
     (tie.spec
     Inv-loop
     μ-loop
-    transitions-requires
+    (λ c κs. c .before .pre .readable)
     loop-holds
-    move-by-requires
+    (λ c κs. let l = c .before .loop in (c .before .before .before .before .pre, omega (arith, l .inv .1, c .loop-test .taken)))
     returns
-    add-i
-    loop-less
+    (λ c. omega (arith, c .before .before .before .loop-test .taken, c .before .before .before .before .before .transitions .ensures .1))
+    (λ c. omega (arith, c .before .before .before .loop-test .taken))
     loop-again
     returns-2)

@@ -6,7 +6,8 @@ use borrow.Author.Needs.{needs}
 use Rattle.lists.specs.Arrays.{padded}
 use Rattle.forms.specs.Slots.{valuesFrom}
 use Rattle.labelling.proofs.NotedTurns.{entry-more}
-use Rattle.concretization.proofs.SlotValues.{values-length, values-step}
+use Rattle.forms.proofs.TermValues.{values-length}
+use Rattle.concretization.proofs.SlotValues.{values-step}
 use Rattle.concretization.proofs.values_at.Statement.{statement}
 use Rattle.concretization.proofs.values_at.Tie as tie
 
@@ -22,15 +23,6 @@ abbrev μ-loop : tie.MeasureT-loop
 loop-holds : tie.Need-loop-holds Inv-loop μ-loop
 unfolding padded
 loop-holds c = (omega arith, refl)
-
-cast-j : tie.Need-cast-j Inv-loop μ-loop
-cast-j c = omega (arith, c .before .before .pre .1 (c .before .loop .i))
-
-mul-values : tie.Need-mul-values Inv-loop μ-loop
-mul-values c = omega (arith, c .before .before .pre .1 (c .before .loop .i))
-
-array-read-values : tie.Need-array-read-values Inv-loop μ-loop
-array-read-values c = omega (arith, c .before .before .pre .1 (c .before .loop .i))
 
 loop-again : tie.Need-loop-again Inv-loop μ-loop
 loop-again c =
@@ -56,9 +48,9 @@ values-at-spec =
     μ-loop
     loop-holds
     (λ c. search needs)
-    cast-j
-    mul-values
-    array-read-values
+    (λ c. omega (arith, c .before .before .pre .1 (c .before .loop .i)))
+    (λ c. omega (arith, c .before .before .pre .1 (c .before .loop .i)))
+    (λ c. omega (arith, c .before .before .pre .1 (c .before .loop .i)))
     (λ c. search needs)
     (λ c. search needs)
     (λ c. search needs)

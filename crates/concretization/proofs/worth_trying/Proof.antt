@@ -7,9 +7,6 @@ use Rattle.concretization.proofs.SlotValues.{worth-fresh, worth-known}
 use Rattle.concretization.proofs.worth_trying.Statement.{statement}
 use Rattle.concretization.proofs.worth_trying.Tie as tie
 
-place-requires : tie.Need-place-requires
-place-requires c κs = c .pre .0
-
 returns : tie.Need-returns
 returns c = let e = c .before .before .before in worth-known 17 (e .args .s) (e .pre .0) (e .args .x) (omega (arith, c .before .before .place .ensures))
 
@@ -19,9 +16,4 @@ returns-2 c =
     ap (eqb (e .args .x)) (e .pre .1) ∙ worth-fresh 17 (e .args .s) (e .pre .0) (e .args .x) (omega (arith, c .before .before .place .ensures))
 
 pub worth-trying-spec : {M : Type 1} → statement M
-worth-trying-spec =
-    tie.close
-    (tie.spec
-    place-requires
-    returns
-    returns-2)
+worth-trying-spec = tie.close (tie.spec (λ c κs. c .pre .0) returns returns-2)

@@ -15,23 +15,11 @@ field-requires-2 c κs = let e = c .before .before in (e .pre .0 .long, located 
 field-requires-3 : tie.Need-field-requires-3
 field-requires-3 c κs = let e = c .before .before .before in (e .pre .0 .long, located (e .args .form .now) (e .pre .0) (e .args .i) (e .pre .1) .low, omega arith)
 
-mul-guard-at : tie.Need-mul-guard-at
-mul-guard-at c = let e = c .before .before .before .before .before in omega (arith, located (e .args .form .now) (e .pre .0) (e .args .i) (e .pre .1) .low)
-
-add-guard-at : tie.Need-add-guard-at
-add-guard-at c = let e = c .before .before .before .before .before in omega (arith, located (e .args .form .now) (e .pre .0) (e .args .i) (e .pre .1) .low)
-
 guard-at-requires : tie.Need-guard-at-requires
 guard-at-requires c κs =
     let e = c .before .before .before .before .before in
     let f = located (e .args .form .now) (e .pre .0) (e .args .i) (e .pre .1) in
     (e .pre .0 .long, omega (arith, f .low), f .guard)
-
-mul-sets-at : tie.Need-mul-sets-at
-mul-sets-at c = let e = c .before .before .before .before .before .before in omega (arith, located (e .args .form .now) (e .pre .0) (e .args .i) (e .pre .1) .low)
-
-add-sets-at : tie.Need-add-sets-at
-add-sets-at c = let e = c .before .before .before .before .before .before in omega (arith, located (e .args .form .now) (e .pre .0) (e .args .i) (e .pre .1) .low)
 
 sets-at-requires : tie.Need-sets-at-requires
 sets-at-requires c κs =
@@ -48,9 +36,6 @@ cast-t14 c = let e = c .before .before .before .before .before .before .before .
 cast-t15 : tie.Need-cast-t15
 cast-t15 c = let e = c .before .before .before .before .before .before .before .before .before in omega (arith, c .before .before .before .before .before .field3 .ensures, located (e .args .form .now) (e .pre .0) (e .args .i) (e .pre .1) .to .1)
 
-cast-t16 : tie.Need-cast-t16
-cast-t16 c = omega (arith, c .before .before .before .before .parameters .ensures .1)
-
 returns : tie.Need-returns
 returns c =
     let p = c .before .before .before .before in
@@ -66,14 +51,14 @@ arc-at-spec =
     field-requires-2
     field-requires-3
     (λ c κs. search needs)
-    mul-guard-at
-    add-guard-at
+    (λ c. let e = c .before .before .before .before .before in omega (arith, located (e .args .form .now) (e .pre .0) (e .args .i) (e .pre .1) .low))
+    (λ c. let e = c .before .before .before .before .before in omega (arith, located (e .args .form .now) (e .pre .0) (e .args .i) (e .pre .1) .low))
     guard-at-requires
-    mul-sets-at
-    add-sets-at
+    (λ c. let e = c .before .before .before .before .before .before in omega (arith, located (e .args .form .now) (e .pre .0) (e .args .i) (e .pre .1) .low))
+    (λ c. let e = c .before .before .before .before .before .before in omega (arith, located (e .args .form .now) (e .pre .0) (e .args .i) (e .pre .1) .low))
     sets-at-requires
     cast-t13
     cast-t14
     cast-t15
-    cast-t16
+    (λ c. omega (arith, c .before .before .before .before .parameters .ensures .1))
     returns)

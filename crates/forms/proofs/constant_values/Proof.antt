@@ -5,8 +5,5 @@ use borrow.Author.Needs.{needs}
 use Rattle.forms.proofs.constant_values.Statement.{statement}
 use Rattle.forms.proofs.constant_values.Tie as tie
 
-returns : tie.Need-returns
-returns c = let e = c .before .before in values-are (e .args .form .now) (e .pre)
-
 pub constant-values-spec : {M : Type 1} → statement M
-constant-values-spec = tie.close (tie.spec (λ c. search needs) (λ c. search needs) returns)
+constant-values-spec = tie.close (tie.spec (λ c. search needs) (λ c. search needs) (λ c. let e = c .before .before in values-are (e .args .form .now) (e .pre)))

@@ -4,7 +4,7 @@ use Prim.Native.Nat.{_+_, _≤_, _-_}
 use mathlib.Core.List.{map}
 use mathlib.Core.Path.{_≡_, refl, ap, _∙_}
 use native.Mathlib.Omega.{arith}
-use Rattle.forms.specs.TableForm.{present, conditionAt}
+use Rattle.forms.specs.FormAutomaton.{present, conditionAt}
 use Rattle.lists.specs.Arrays.{padded}
 use Rattle.forms.specs.Slots.{guardOf, guardWith}
 use Rattle.forms.proofs.Encoding.{lines-le, line-passes, guard-more}

@@ -2,7 +2,7 @@
 -- Assumes nothing.
 use mathlib.Core.Path.{subst⁻¹}
 use native.Mathlib.Omega.{arith}
-use Rattle.forms.specs.TableForm.{targetOf}
+use Rattle.forms.specs.FormAutomaton.{targetOf}
 use Rattle.forms.specs.Slots.{FitsGuard}
 use Rattle.forms.proofs.Forms.{guard-fits, target-few}
 use Rattle.forms.proofs.target_guard.Statement.{statement}

@@ -5,7 +5,7 @@ use mathlib.Core.Path.{_≡_, refl, ap, _∙_}
 use native.Mathlib.Omega.{arith}
 use lib.ListN.{length, take}
 use Rattle.lists.specs.Arrays.{padded}
-use Rattle.classes.specs.Classes.{notes, identifiers}
+use Rattle.classes.specs.Contents.{notes, identifiers}
 use Rattle.labelling.specs.Noted.{known, seenOf}
 use Rattle.labelling.proofs.Noted.{tidy-wider}
 use Rattle.labelling.proofs.NotedTurns.{found-tidy, found-seen, found-ids}

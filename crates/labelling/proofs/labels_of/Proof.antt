@@ -5,7 +5,8 @@ use mathlib.Core.Path.{_≡_, refl, ap, _∙_}
 use native.Mathlib.Omega.{arith}
 use lib.ListN.{length, take}
 use Rattle.lists.specs.Arrays.{padded}
-use Rattle.classes.specs.Classes.{labels, notes}
+use Rattle.classes.specs.Classes.{labels}
+use Rattle.classes.specs.Contents.{notes}
 use Rattle.labelling.specs.Noted.{known, seenOf, labelled}
 use Rattle.labelling.proofs.Noted.{tidy-wider}
 use Rattle.labelling.proofs.NotedTurns.{value-tidy, value-seen, value-labels, labelled-is}

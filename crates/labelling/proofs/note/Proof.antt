@@ -6,14 +6,8 @@ use Rattle.labelling.proofs.Noted.{tidy-wider, note-old, note-new}
 use Rattle.labelling.proofs.note.Statement.{statement}
 use Rattle.labelling.proofs.note.Tie as tie
 
-place-requires : tie.Need-place-requires
-place-requires c κs = tidy-wider 16 (c .args .s) (c .pre) 17 (omega arith)
-
 returns : tie.Need-returns
 returns c = let e = c .before .before .before in note-old 16 (e .args .s) (e .pre) (e .args .x) (omega (arith, c .before .before .place .ensures .0))
-
-push-requires : tie.Need-push-requires
-push-requires c κs = c .before .before .before .pre
 
 returns-2 : tie.Need-returns-2
 returns-2 c =
@@ -24,7 +18,7 @@ pub note-spec : {M : Type 1} → statement M
 note-spec =
     tie.close
     (tie.spec
-    place-requires
+    (λ c κs. tidy-wider 16 (c .args .s) (c .pre) 17 (omega arith))
     returns
-    push-requires
+    (λ c κs. c .before .before .before .pre)
     returns-2)

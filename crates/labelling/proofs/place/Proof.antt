@@ -6,8 +6,5 @@ use borrow.Author.Needs.{needs}
 use Rattle.labelling.proofs.place.Statement.{statement}
 use Rattle.labelling.proofs.place.Tie as tie
 
-position-of-requires : tie.Need-position-of-requires
-position-of-requires c κs = let e = c .before .before in omega (arith, e .pre .few, ids-length 17 (e .args .s) (e .pre))
-
 pub place-spec : {M : Type 1} → statement M
-place-spec = tie.close (tie.spec (λ c. search needs) position-of-requires (λ c. search needs))
+place-spec = tie.close (tie.spec (λ c. search needs) (λ c κs. let e = c .before .before in omega (arith, e .pre .few, ids-length 17 (e .args .s) (e .pre))) (λ c. search needs))

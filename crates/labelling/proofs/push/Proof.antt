@@ -5,17 +5,8 @@ use Rattle.labelling.proofs.Noted.{push-is}
 use Rattle.labelling.proofs.push.Statement.{statement}
 use Rattle.labelling.proofs.push.Tie as tie
 
-mul-ids : tie.Need-mul-ids
-mul-ids c = let t = c .before .pre in omega (arith, t .few)
-
-array-write-ids : tie.Need-array-write-ids
-array-write-ids c = let t = c .before .pre in omega (arith, t .few)
-
-add-t5 : tie.Need-add-t5
-add-t5 c = let t = c .before .pre in omega (arith, t .few)
-
 returns : tie.Need-returns
 returns c = let e = c .before in push-is 16 (e .args .s) (e .pre) (e .args .x) (omega arith)
 
 pub push-spec : {M : Type 1} → statement M
-push-spec = tie.close (tie.spec mul-ids array-write-ids add-t5 returns)
+push-spec = tie.close (tie.spec (λ c. let t = c .before .pre in omega (arith, t .few)) (λ c. let t = c .before .pre in omega (arith, t .few)) (λ c. let t = c .before .pre in omega (arith, t .few)) returns)

@@ -8,7 +8,8 @@ use borrow.Author.Tests.{lt-ltb, le-ltb}
 use lib.ListN.{length}
 use Rattle.lists.specs.Searches.{firstFrom}
 use Rattle.lists.proofs.Searches.{first-start, first-here, first-later, first-none}
-use Rattle.classes.specs.Classes.{position, freshFrom, fresh}
+use Rattle.classes.specs.Classes.{position}
+use Rattle.classes.specs.Contents.{freshFrom, fresh}
 use Rattle.labelling.specs.Noted.{known}
 use Rattle.labelling.proofs.Noted.{known-length}
 use Rattle.labelling.proofs.NotedTurns.{isNew, fresh-first}

@@ -4,9 +4,6 @@ use Rattle.labelling.proofs.Noted.{five-numbers}
 use Rattle.labelling.proofs.wide_labels.Statement.{statement}
 use Rattle.labelling.proofs.wide_labels.Tie as tie
 
-returns : tie.Need-returns
-returns c = five-numbers (c .args .t1) (search needs)
-
 pub wide-labels-spec : {M : Type 1} → statement M
 wide-labels-spec =
     tie.close
@@ -21,4 +18,4 @@ wide-labels-spec =
     (λ c. search needs)
     (λ c. search needs)
     (λ c. search needs)
-    returns)
+    (λ c. five-numbers (c .args .t1) (search needs)))

@@ -4,7 +4,7 @@ use borrow.Author.Needs.{needs}
 use Rattle.reader.specs.TableReply.{replyOf, formOf}
 use Rattle.reader.specs.Table.{readTable}
 use Rattle.reader.proofs.TableOutcomes.{told}
-use Rattle.opening.specs.Opening.{labelsOf}
+use Rattle.opening.specs.OpenedLabels.{labelsOf}
 use Rattle.opening.proofs.Opened.{read-readable, opened, no-start, not-read}
 use Rattle.opening.proofs.open_table.Statement.{statement}
 use Rattle.opening.proofs.open_table.Tie as tie

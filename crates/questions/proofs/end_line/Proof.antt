@@ -9,7 +9,7 @@ returns : tie.Need-returns
 unfolding onEnd
 returns c =
     let d = c .before .before .before .before .before .before .before .before in
-    simp (c .before .before .before .before .before .before .with-line .ensures, ← d .close .ensures, ← c .before .before .before .before .before .before .before .judge-line .ensures, eq-eqb _ _ (c .before .before .before .before .before .if1 .taken), c .before .before .put-row .ensures)
+    simp (c .before .before .before .before .before .before .with-line .ensures, ← d .close .ensures, ← c .before .before .before .before .before .before .before .judge-line .ensures, eq-eqb _ _ (c .before .before .before .before .before .if1 .taken), c .before .before .put-question-row .ensures)
 
 returns-2 : tie.Need-returns-2
 unfolding onEnd

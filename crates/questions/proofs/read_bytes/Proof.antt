@@ -21,12 +21,6 @@ abbrev μ-loop : tie.MeasureT-loop
 loop-holds : tie.Need-loop-holds Inv-loop μ-loop
 loop-holds c = (omega arith, refl, rw (c .between-lines .ensures) (omega arith), refl)
 
-feed-requires : tie.Need-feed-requires Inv-loop μ-loop
-feed-requires c κs = omega arith
-
-loop-less : tie.Need-loop-less Inv-loop μ-loop
-loop-less c = omega arith
-
 loop-again : tie.Need-loop-again Inv-loop μ-loop
 loop-again c =
     let v = c .before .before .before .before .before .before .loop in
@@ -38,9 +32,6 @@ loop-again c =
       subst⁻¹ (λ (z : Reading Rows). z .lines .lines ≤ v .i + 1) (g .ensures) (fed-cases (questionRules (a .c)) (λ n s. n ≤ v .i + 1) y (getD (a .s .now) (v .i) 0) (omega arith) (λ f. omega arith)),
       g .kept .1 .1 .1 .0 ∙ v .inv .3,
     )
-
-same-length : tie.Need-same-length Inv-loop μ-loop
-same-length c = c .before .loop .inv .3
 
 returns : tie.Need-returns Inv-loop μ-loop
 returns c =
@@ -59,9 +50,9 @@ read-bytes-spec =
     (λ c κs. search needs)
     loop-holds
     (λ c. search needs)
-    feed-requires
+    (λ c κs. omega arith)
     (λ c. search needs)
-    loop-less
+    (λ c. omega arith)
     loop-again
-    same-length
+    (λ c. c .before .loop .inv .3)
     returns)

@@ -10,15 +10,6 @@ use Rattle.reader.proofs.Bounds.{row-low}
 use Rattle.reader.proofs.accept.Statement.{statement}
 use Rattle.reader.proofs.accept.Tie as tie
 
-add-load : tie.Need-add-load
-add-load c = let h : Fits w32 (getD (c .before .before .args .t2) 2 0) = search needs in omega arith
-
-mul-load : tie.Need-mul-load
-mul-load c = let h : Fits w32 (getD (c .before .before .args .t2) 2 0) = search needs in omega arith
-
-add-load-2 : tie.Need-add-load-2
-add-load-2 c = let h : Fits w32 (getD (c .before .before .args .t2) 2 0) = search needs in omega arith
-
 put-row-requires : tie.Need-put-row-requires
 put-row-requires c κs =
     let a = c .before .before .before .before .before .args in
@@ -26,7 +17,7 @@ put-row-requires c κs =
     omega (arith, ap (λ (k : Kind). k .row) (c .before .kind-at .ensures), row-low (a .p) (getD (a .t2) 0 0) (getD (a .t2) 1 0) (c .before .before .before .before .before .pre) (h .fits))
 
 returns : tie.Need-returns
-returns c = (simp (← c .before .before .before .before .before .kind-at .ensures, ← c .before .before .before .before .before .before .load .ensures) (c .advanced .ensures), simp (← c .before .before .before .before .before .kind-at .ensures) (c .before .before .before .put-row .ensures))
+returns c = (simp (← c .before .before .before .before .before .kind-at .ensures, ← c .before .before .before .before .before .before .cell .ensures) (c .advanced .ensures), simp (← c .before .before .before .before .before .kind-at .ensures) (c .before .before .before .put-row .ensures))
 
 pub accept-spec : {M : Type 1} → statement M
 accept-spec =
@@ -34,10 +25,8 @@ accept-spec =
     (tie.spec
     (λ c. search needs)
     (λ c. search needs)
-    add-load
-    mul-load
-    add-load-2
-    (λ c κs. search needs)
+    (λ c. let h : Fits w32 (getD (c .before .before .args .t2) 2 0) = search needs in omega arith)
+    (λ c κs. let h : Fits w32 (getD (c .before .before .args .t2) 2 0) = search needs in omega arith)
     (λ c. search needs)
     (λ c. search needs)
     (λ c κs. search needs)

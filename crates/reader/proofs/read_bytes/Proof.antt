@@ -29,12 +29,6 @@ loop-holds c = (omega arith, refl, rw (c .between-lines .ensures) (omega arith, 
 feed-requires : tie.Need-feed-requires Inv-loop μ-loop
 feed-requires c κs = let v = c .before .before .before .loop in (small-weaken (v .r .progress) (v .r .lines .lines) 50000 (omega arith) (v .inv .2 .1), omega arith)
 
-add-i : tie.Need-add-i Inv-loop μ-loop
-add-i c = omega arith
-
-loop-less : tie.Need-loop-less Inv-loop μ-loop
-loop-less c = omega arith
-
 loop-again : tie.Need-loop-again Inv-loop μ-loop
 loop-again c =
     let v = c .before .before .before .before .before .before .loop in
@@ -47,9 +41,6 @@ loop-again c =
           (fed-cases tableRules (Few (v .i + 1)) y (getD (a .s .now) (v .i) 0) (omega arith, v .inv .2 .1) (λ f. (omega arith, small-advance (v .r .progress) _ f _ (v .r .lines .lines) (v .inv .2 .1)))),
       g .kept .1 .1 .0 ∙ v .inv .3,
     )
-
-same-length : tie.Need-same-length Inv-loop μ-loop
-same-length c = c .before .loop .inv .3
 
 returns : tie.Need-returns Inv-loop μ-loop
 returns c =
@@ -70,8 +61,8 @@ read-bytes-spec =
     loop-holds
     (λ c. search needs)
     feed-requires
-    add-i
-    loop-less
+    (λ c. omega arith)
+    (λ c. omega arith)
     loop-again
-    same-length
+    (λ c. c .before .loop .inv .3)
     returns)

@@ -6,8 +6,8 @@ use Rattle.reader.proofs.read_target.Tie as tie
 returns : tie.Need-returns
 returns c =
     let e = c .read-file .ensures in (
-      simp (← c .before .before .load3 .ensures, ← c .before .before .before .load2 .ensures, ← c .before .before .before .before .load .ensures) (e .0),
-      simp (← c .before .before .load3 .ensures, ← c .before .before .before .load2 .ensures, ← c .before .before .before .before .load .ensures) (e .1),
+      simp (← c .before .before .cell3 .ensures, ← c .before .before .before .cell2 .ensures, ← c .before .before .before .before .cell .ensures) (e .0),
+      simp (← c .before .before .cell3 .ensures, ← c .before .before .before .cell2 .ensures, ← c .before .before .before .before .cell .ensures) (e .1),
     )
 
 pub read-target-spec : {M : Type 1} → statement M

@@ -4,7 +4,7 @@ use Prim.Native.Nat.{_-_, _<_}
 use mathlib.Core.Path.{_≡_, sym, _∙_, subst}
 use native.Mathlib.Omega.{arith}
 use lib.ListN.{length, length-map}
-use Rattle.forms.specs.TableForm.{automatonOf}
+use Rattle.forms.specs.FormAutomaton.{automatonOf}
 use Rattle.forms.specs.Slots.{Fits}
 use Rattle.automata.specs.Runs.{transitionOf}
 use Rattle.forms.proofs.Forms.{arc-fits}

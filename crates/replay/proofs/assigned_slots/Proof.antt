@@ -21,9 +21,6 @@ abbrev μ-loop : tie.MeasureT-loop
 loop-holds : tie.Need-loop-holds Inv-loop μ-loop
 loop-holds c = (omega arith, all-start _ _ 0)
 
-assigned-requires : tie.Need-assigned-requires Inv-loop μ-loop
-assigned-requires c κs = let e = c .before .before in let i = c .before .loop .i in (e .pre .1 i, e .pre .2 i)
-
 loop-again : tie.Need-loop-again Inv-loop μ-loop
 loop-again c =
     let l = c .before .before .before .loop in
@@ -44,7 +41,7 @@ assigned-slots-spec =
     loop-holds
     (λ c. search needs)
     (λ c. search needs)
-    assigned-requires
+    (λ c κs. let e = c .before .before in let i = c .before .loop .i in (e .pre .1 i, e .pre .2 i))
     (λ c. search needs)
     (λ c. search needs)
     loop-again

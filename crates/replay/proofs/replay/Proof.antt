@@ -5,8 +5,8 @@ use mathlib.Core.Path.{_≡_, refl, sym, ap, _∙_}
 use native.Mathlib.Omega.{arith}
 use lib.ListN.{length, take, drop, length-take, length-drop}
 use lib.Seq.{take-all}
-use Rattle.forms.specs.TableForm.{automatonOf}
-use Rattle.replay.specs.Judge.{stepFrom, stepsIn}
+use Rattle.forms.specs.FormAutomaton.{automatonOf}
+use Rattle.replay.specs.RunForm.{stepFrom, stepsIn}
 use Rattle.replay.specs.Progress.{begun, advanced, through, judged}
 use Rattle.replay.proofs.StepWalk.{stepsAt, through-next, through-end, judged-through}
 use borrow.Author.Needs.{needs}

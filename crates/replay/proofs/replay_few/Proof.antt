@@ -49,7 +49,7 @@ use Rattle.struct_slices.specs.Lent.{array-in, array-out, later-ones, first-out
 use Rattle.struct_slices.specs.Walk.{drops, drops-go, answers}
 use Rattle.replay.specs.declared.Step.{Step}
 use Rattle.replay.specs.declared.Verdict.{Verdict}
-use Rattle.forms.specs.TableForm.{automatonOf}
+use Rattle.forms.specs.FormAutomaton.{automatonOf}
 use Rattle.forms.specs.Readable.{Readable}
 use Rattle.replay.specs.Judge.{judge}
 use Rattle.replay.proofs.Step as S

@@ -53,7 +53,7 @@ use denote.Triple.Walked.{says, needs, Stays, walkOf, Walks, ends-at, walked, wa
 use Rattle.replay.specs.declared.Step.{Step}
 use Rattle.replay.specs.declared.Progress.{Progress}
 use Rattle.replay.specs.declared.Verdict.{Verdict}
-use Rattle.forms.specs.TableForm.{automatonOf}
+use Rattle.forms.specs.FormAutomaton.{automatonOf}
 use Rattle.forms.specs.Readable.{Readable}
 use Rattle.replay.specs.Judge.{judge}
 use Rattle.replay.specs.Progress.{begun, advanced, through, judged}

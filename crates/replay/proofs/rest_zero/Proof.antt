@@ -9,7 +9,7 @@ use lib.ListN.{length, getD}
 use Rattle.lists.specs.Searches.{allFrom}
 use Rattle.lists.proofs.Searches.{all-fails, all-more, all-done}
 use Rattle.replay.proofs.Turns.{rest-is}
-use Rattle.replay.specs.Judge.{restZero}
+use Rattle.replay.specs.RunForm.{restZero}
 use borrow.Author.Needs.{needs}
 use Rattle.replay.proofs.rest_zero.Statement.{statement}
 use Rattle.replay.proofs.rest_zero.Tie as tie

@@ -7,9 +7,6 @@ use borrow.Author.Needs.{needs}
 use Rattle.replay.proofs.start_of.Statement.{statement}
 use Rattle.replay.proofs.start_of.Tie as tie
 
-returns : tie.Need-returns
-returns c = sym (part-is 5 0 (c .before .before .before .before .before .args .run .now) (omega arith))
-
 pub start-of-spec : {M : Type 1} → statement M
 start-of-spec =
     tie.close
@@ -19,4 +16,4 @@ start-of-spec =
     (λ c. search needs)
     (λ c. search needs)
     (λ c. search needs)
-    returns)
+    (λ c. sym (part-is 5 0 (c .before .before .before .before .before .args .run .now) (omega arith))))

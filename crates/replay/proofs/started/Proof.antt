@@ -9,15 +9,6 @@ use borrow.Author.Needs.{needs}
 use Rattle.replay.proofs.started.Statement.{statement}
 use Rattle.replay.proofs.started.Tie as tie
 
-target-guard-requires : tie.Need-target-guard-requires
-target-guard-requires c κs = let r = c .before .pre in (r .long, start-lines _ r)
-
-holds-requires : tie.Need-holds-requires
-holds-requires c κs = c .before .before .before .target-guard .ensures .1
-
-cast-t17 : tie.Need-cast-t17
-cast-t17 c = omega (arith, c .start2 .ensures .2)
-
 returns : tie.Need-returns
 returns c =
     let e = c .before .before .before .before .before .before .before .before .before .before in
@@ -34,13 +25,13 @@ pub started-spec : {M : Type 1} → statement M
 started-spec =
     tie.close
     (tie.spec
-    target-guard-requires
+    (λ c κs. let r = c .before .pre in (r .long, start-lines _ r))
     (λ c κs. search needs)
     (λ c κs. search needs)
-    holds-requires
+    (λ c κs. c .before .before .before .target-guard .ensures .1)
     (λ c. search needs)
     (λ c κs. search needs)
     (λ c κs. search needs)
     (λ c κs. search needs)
-    cast-t17
+    (λ c. omega (arith, c .start2 .ensures .2))
     returns)

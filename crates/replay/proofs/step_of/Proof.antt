@@ -2,7 +2,7 @@
 -- Assumes nothing.
 use mathlib.Core.Path.{refl, sym}
 use native.Mathlib.Omega.{arith}
-use Rattle.replay.specs.Judge.{stepFrom}
+use Rattle.replay.specs.RunForm.{stepFrom}
 use Rattle.replay.proofs.Turns.{part-is}
 use Rattle.replay.proofs.Flat.{step-path}
 use borrow.Author.Needs.{needs}

@@ -5,9 +5,6 @@ use borrow.Author.Needs.{needs}
 use Rattle.replay.proofs.tidy.Statement.{statement}
 use Rattle.replay.proofs.tidy.Tie as tie
 
-returns : tie.Need-returns
-returns c = and-path (c .before .before .rest-zero .ensures) (c .rest-zero2 .ensures)
-
 pub tidy-spec : {M : Type 1} → statement M
 tidy-spec =
     tie.close
@@ -16,4 +13,4 @@ tidy-spec =
     (λ c κs. search needs)
     (λ c. search needs)
     (λ c κs. search needs)
-    returns)
+    (λ c. and-path (c .before .before .rest-zero .ensures) (c .rest-zero2 .ensures)))

@@ -1,15 +1,17 @@
--- `test_random::try_cases` is safe and ends: a thousand cases at most.
+-- `test_random::try_cases` is safe and ends: 1,000 cases at most.
 -- Assumes nothing.
 use Prim.Native.Nat.{_≤_, _-_}
+use mathlib.Core.Path.{_≡_}
+use lib.ListN.{length}
 use borrow.Author.Needs.{needs}
 use Rattle.test_random.proofs.try_cases.Statement.{statement}
 use Rattle.test_random.proofs.try_cases.Tie as tie
 
 abbrev Inv-loop : tie.InvT-loop
-Inv-loop file c₀ i₀ c i = i ≤ 1000
+Inv-loop file counts₀ case₀ counts case = (case ≤ 1001) × (length counts ≡ length counts₀)
 
 abbrev μ-loop : tie.MeasureT-loop
-μ-loop file c₀ i₀ c i = 1000 - i
+μ-loop file counts₀ case₀ counts case = 1001 - case
 
 pub try-cases-spec : {M : Type 1} → statement M
 try-cases-spec =
@@ -17,9 +19,10 @@ try-cases-spec =
     (tie.spec
     Inv-loop
     μ-loop
-    (λ c κs. search needs)
     (λ c. search needs)
     (λ c κs. search needs)
+    (λ c. search needs)
+    (λ c. search needs)
     (λ c. search needs)
     (λ c. search needs)
     (λ c. search needs)

@@ -6,9 +6,6 @@ use Rattle.catalogue.specs.FlatCatalogue.{catalogue}
 use Rattle.catalogue.proofs.flat.table.Statement.{statement}
 use Rattle.catalogue.proofs.flat.table.Tie as tie
 
-returns : tie.Need-returns
-unfolding flatMap catalogue
-returns c = refl
-
 pub table-spec : {M : Type 1} → statement M
-table-spec = tie.close (tie.spec returns)
+unfolding flatMap catalogue
+table-spec = tie.close (tie.spec (λ c. refl))

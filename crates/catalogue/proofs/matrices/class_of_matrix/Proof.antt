@@ -29,9 +29,6 @@ compared c =
     (matrix-front (a .r) (a .c) (p .0) (a .matrix .now) (c .before .before .before .before .before .valuation-of .result) (c .before .before .before .before .before .valuation-of .ensures)
     (o .last .1 .1 .1 .1 .0) (replicate 25 0) (p .1) (p .2) (o .ensures))
 
-matrix-of-requires : tie.Need-matrix-of-requires
-matrix-of-requires c κs = let f = square-fits (c .before .before .before .args .r) (omega arith) in search needs
-
 same-entries-requires : tie.Need-same-entries-requires
 same-entries-requires c κs =
     omega (arith, square-fits (c .before .before .before .before .before .before .args .r) (omega arith), c .before .before .matrix-of .kept .1 .1 .1 .1 .0)
@@ -61,7 +58,7 @@ class-of-matrix-spec =
     (tie.spec
     (λ c κs. search needs)
     (λ c. search needs)
-    matrix-of-requires
+    (λ c κs. let f = square-fits (c .before .before .before .args .r) (omega arith) in search needs)
     (λ c. search needs)
     same-entries-requires
     (λ c κs. search needs)

@@ -1,51 +1,42 @@
--- `matrices::first_equal` meets its contract. The loop's invariant: the first equal register is j places past that in what is left.
-use Prim.Native.Nat.{_+_, _-_, _≤_}
-use mathlib.Core.Path.{_≡_, _∙_}
+-- `matrices::first_equal` meets its contract: the search goes on from j.
+use Prim.Native.Nat.{_-_, _≤_}
+use mathlib.Core.Bool.{not}
+use mathlib.Core.Path.{_≡_, sym, ap, _∙_}
 use native.Mathlib.Omega.{arith}
 use borrow.Author.Needs.{needs}
-use lib.ListN.{length, getD, take, drop, length-drop}
-use lib.Seq.{length-take-le, getD-take, getD-drop}
-use Rattle.catalogue.proofs.MatrixRows.{Equal, equal-found, equal-passed, equal-ended}
+use borrow.Author.Tests.{eq-eqb, ne-eqb}
+use Rattle.lists.specs.Searches.{firstFrom}
+use Rattle.lists.proofs.Searches.{first-start, first-here, first-later, first-none}
+use Rattle.catalogue.specs.MatrixCells.{isEqual, firstEqual}
 use Rattle.catalogue.proofs.matrices.first_equal.Statement.{statement}
 use Rattle.catalogue.proofs.matrices.first_equal.Tie as tie
 
 abbrev Inv-loop : tie.InvT-loop
-Inv-loop matrix at n j₀ j = (length (take n (drop at matrix)) ≡ n) × (j ≤ n) × Equal (take n (drop at matrix)) j
+Inv-loop matrix at n j₀ j = (j ≤ n) × (firstFrom (isEqual matrix at) j (n - j) ≡ firstEqual matrix at n)
 
 abbrev μ-loop : tie.MeasureT-loop
 μ-loop matrix at n j₀ j = n - j
 
--- the entry that is read
-entry : (c : tie.In-loop Inv-loop μ-loop)
-    → let a = c .before .before .args in
-    getD (take (a .n) (drop (a .at) (a .matrix .now))) (c .before .loop .j) 0 ≡ getD (a .matrix .now) (a .at + c .before .loop .j) 0
-entry c =
-    let a = c .before .before .args in
-    let l = c .before .loop in
-    getD-take (a .n) (drop (a .at) (a .matrix .now)) (l .j) 0 (omega arith) ∙ getD-drop (a .at) (a .matrix .now) (l .j) 0
-
 loop-holds : tie.Need-loop-holds Inv-loop μ-loop
-loop-holds c =
-    let a = c .args in
-    (length-take-le (a .n) (drop (a .at) (a .matrix .now)) (omega (arith, length-drop (a .at) (a .matrix .now))), omega arith, omega arith)
+loop-holds c = let a = c .args in (omega arith, first-start (isEqual (a .matrix .now) (a .at)) (a .n) 0)
 
 returns : tie.Need-returns Inv-loop μ-loop
 returns c =
     let a = c .before .before .before .before .args in
     let l = c .before .before .before .loop in
-    (equal-found (take (a .n) (drop (a .at) (a .matrix .now))) (l .j) _ (l .inv .2) (omega arith) (entry (c .before .before)) (c .if1 .taken), omega arith)
+    (sym (first-here (isEqual (a .matrix .now) (a .at)) (a .n) (l .j) (omega arith) (ap not (ne-eqb _ _ (c .if1 .taken)))) ∙ l .inv .1, omega arith)
 
 loop-again : tie.Need-loop-again Inv-loop μ-loop
 loop-again c =
     let a = c .before .before .before .before .args in
     let l = c .before .before .before .loop in
-    (l .inv .0, omega arith, equal-passed (take (a .n) (drop (a .at) (a .matrix .now))) (l .j) _ (l .inv .2) (omega arith) (entry (c .before .before)) (c .if1 .left))
+    (omega arith, sym (first-later (isEqual (a .matrix .now) (a .at)) (a .n) (l .j) (omega arith) (ap not (eq-eqb _ _ (c .if1 .left)))) ∙ l .inv .1)
 
 returns-2 : tie.Need-returns-2 Inv-loop μ-loop
 returns-2 c =
     let a = c .before .before .args in
     let l = c .before .loop in
-    (equal-ended (take (a .n) (drop (a .at) (a .matrix .now))) (l .j) 0 (l .inv .2) (omega arith), omega arith)
+    (sym (first-none (isEqual (a .matrix .now) (a .at)) (a .n) (l .j) (omega arith)) ∙ l .inv .1, omega arith)
 
 pub first-equal-spec : {M : Type 1} → statement M
 first-equal-spec =

@@ -4,7 +4,8 @@ use native.Mathlib.Omega.{arith}
 use borrow.Author.Needs.{needs}
 use lib.ListN.{length, take}
 use lib.Seq.{length-take-le}
-use Rattle.classes.specs.Classes.{labels, Legal, lists, index}
+use Rattle.classes.specs.Classes.{labels, lists, index}
+use Rattle.classes.specs.Contents.{Legal}
 use Rattle.classes.proofs.Legal.{labels-length, labels-legal}
 use Rattle.catalogue.proofs.Copying.{padded-front}
 use Rattle.catalogue.proofs.numbers.class_of.Statement.{statement}

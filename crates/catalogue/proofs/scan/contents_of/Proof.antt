@@ -5,9 +5,9 @@ use native.Mathlib.Omega.{arith}
 use lib.ListN.{length, take}
 use lib.Seq.{length-take-le, getD-take}
 use Rattle.lists.specs.Arrays.{padded}
-use Rattle.classes.specs.Classes.{identifiers}
+use Rattle.classes.specs.Contents.{identifiers}
 use Rattle.labelling.proofs.Noted.{constants-tidy, constants-known}
-use Rattle.catalogue.proofs.Complete.{legal-positive}
+use Rattle.classes.proofs.GivenBack.{legal-low}
 use borrow.Author.Needs.{needs}
 use Rattle.catalogue.proofs.scan.contents_of.Statement.{statement}
 use Rattle.catalogue.proofs.scan.contents_of.Tie as tie
@@ -19,7 +19,7 @@ identifiers-of-requires c κs =
     let five : length (a .labels) ≡ 5 = search needs in (
       constants-tidy (a .c) (a .constants) (e .pre .0) (c .constants-seen .ensures) 12 (omega arith),
       e .pre .1,
-      (λ i h. rw (← getD-take (a .r) (a .labels) i 0 h) (legal-positive (a .c) (take (a .r) (a .labels)) (e .pre .2) i (omega (arith, length-take-le (a .r) (a .labels) (omega arith))))),
+      (λ i h. rw (← getD-take (a .r) (a .labels) i 0 h) (legal-low (a .c) (take (a .r) (a .labels)) i (e .pre .2) (omega (arith, length-take-le (a .r) (a .labels) (omega arith))))),
     )
 
 returns : tie.Need-returns

@@ -52,15 +52,6 @@ loop-holds c =
       filling-first (λ m. serves (a .r) (a .c) (row catalogue m)) 674 (servingRows (a .r) (a .c)) (a .rows .now) (serving-rows (a .r) (a .c)),
     )
 
-mul-rows : tie.Need-mul-rows Inv-loop μ-loop
-mul-rows c = let h = room c in search needs
-
-slice-write-rows : tie.Need-slice-write-rows Inv-loop μ-loop
-slice-write-rows c = room c
-
-add-count : tie.Need-add-count Inv-loop μ-loop
-add-count c = let h = room c in search needs
-
 loop-again : tie.Need-loop-again Inv-loop μ-loop
 loop-again c =
     let a = c .before .before .before .before .before .before .args in
@@ -99,9 +90,9 @@ fill-rows-spec =
     (λ c. search needs)
     (λ c κs. search needs)
     (λ c. search needs)
-    mul-rows
-    slice-write-rows
-    add-count
+    (λ c. let h = room c in search needs)
+    (λ c. room c)
+    (λ c. let h = room c in search needs)
     (λ c. search needs)
     (λ c. search needs)
     loop-again

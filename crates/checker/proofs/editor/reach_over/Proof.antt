@@ -1,8 +1,8 @@
 -- `checker::editor::reach_over` meets its contract. Assumes nothing.
 use mathlib.Core.Path.{sym, ap}
 use native.Mathlib.Omega.{arith}
-use lib.ListN.{length}
-use Rattle.checker.specs.Editor.{reachCode}
+use Rattle.claims.specs.Files.{reachBuffers}
+use Rattle.claims.specs.Editor.{reachCode}
 use Rattle.checker.proofs.Codes.{reach-code, reach-number}
 use borrow.Author.Needs.{needs}
 use Rattle.checker.proofs.editor.reach_over.Statement.{statement}
@@ -11,26 +11,22 @@ use Rattle.checker.proofs.editor.reach_over.Tie as tie
 add-result : tie.Need-add-result
 add-result c =
     let a = c .before .before .before .before .before .before .before .before .before .before .before .before .before .before .before .before .before .before .before .before .before .before .before .before .before .before .before .args in
-    let e = c .before .before .before .before .before .before .before .before .before .before .before .before .before .before .before .before .before .before .before .before .before .before .before .before .before .before .before .pre in
-    omega (arith, reach-number (length (a .words .now)) (length (a .least .now)) (length (a .links .now)) (length (a .run .now)) (length (a .lines .now)) (a .table .now) (a .target .now) (e .0) (e .1) (e .2) (e .3) (e .4) _ (c .before .before .before .before .before .before .before .before .before .before .before .before .before .before .reach .ensures .0) _ (c .before .before .reply .given .1))
+    omega (arith, reach-number (reachBuffers (a .words .now) (a .least .now) (a .links .now) (a .run .now) (a .lines .now)) (a .table .now) (a .target .now) (c .before .before .before .before .before .before .before .before .before .before .before .before .before .before .before .before .before .before .before .before .before .before .before .before .before .before .before .pre) _ (c .before .before .before .before .before .before .before .before .before .before .before .before .before .before .reach .ensures .0) _ (c .before .before .reply .given .1))
 
 returns : tie.Need-returns
 returns c =
     let a = c .before .before .before .before .before .before .before .before .before .before .before .before .before .before .before .before .before .before .before .before .before .before .before .before .before .args in
-    let e = c .before .before .before .before .before .before .before .before .before .before .before .before .before .before .before .before .before .before .before .before .before .before .before .before .before .pre in
-    reach-code (length (a .words .now)) (length (a .least .now)) (length (a .links .now)) (length (a .run .now)) (length (a .lines .now)) (a .table .now) (a .target .now) (e .0) (e .1) (e .2) (e .3) (e .4) _ (c .before .before .before .before .before .before .before .before .before .before .before .before .reach .ensures .0) _ (sym (ap reachCode (c .enum-told .given .1)))
+    reach-code (reachBuffers (a .words .now) (a .least .now) (a .links .now) (a .run .now) (a .lines .now)) (a .table .now) (a .target .now) (c .before .before .before .before .before .before .before .before .before .before .before .before .before .before .before .before .before .before .before .before .before .before .before .before .before .pre) _ (c .before .before .before .before .before .before .before .before .before .before .before .before .reach .ensures .0) _ (sym (ap reachCode (c .enum-told .given .1)))
 
 returns-2 : tie.Need-returns-2
 returns-2 c =
     let a = c .before .before .before .before .before .before .before .before .before .before .before .before .before .before .before .before .before .before .before .before .before .before .before .before .before .args in
-    let e = c .before .before .before .before .before .before .before .before .before .before .before .before .before .before .before .before .before .before .before .before .before .before .before .before .before .pre in
-    reach-code (length (a .words .now)) (length (a .least .now)) (length (a .links .now)) (length (a .run .now)) (length (a .lines .now)) (a .table .now) (a .target .now) (e .0) (e .1) (e .2) (e .3) (e .4) _ (c .before .before .before .before .before .before .before .before .before .before .before .before .reach .ensures .0) _ (sym (ap reachCode (c .enum-told2 .given .1)))
+    reach-code (reachBuffers (a .words .now) (a .least .now) (a .links .now) (a .run .now) (a .lines .now)) (a .table .now) (a .target .now) (c .before .before .before .before .before .before .before .before .before .before .before .before .before .before .before .before .before .before .before .before .before .before .before .before .before .pre) _ (c .before .before .before .before .before .before .before .before .before .before .before .before .reach .ensures .0) _ (sym (ap reachCode (c .enum-told2 .given .1)))
 
 returns-3 : tie.Need-returns-3
 returns-3 c =
     let a = c .before .before .before .before .before .before .before .before .before .before .before .before .before .before .before .before .before .before .before .before .before .before .before .before .before .before .before .args in
-    let e = c .before .before .before .before .before .before .before .before .before .before .before .before .before .before .before .before .before .before .before .before .before .before .before .before .before .before .before .pre in
-    reach-code (length (a .words .now)) (length (a .least .now)) (length (a .links .now)) (length (a .run .now)) (length (a .lines .now)) (a .table .now) (a .target .now) (e .0) (e .1) (e .2) (e .3) (e .4) _ (c .before .before .before .before .before .before .before .before .before .before .before .before .before .before .reach .ensures .0) _ (sym (ap reachCode (c .before .before .reply .given .1)))
+    reach-code (reachBuffers (a .words .now) (a .least .now) (a .links .now) (a .run .now) (a .lines .now)) (a .table .now) (a .target .now) (c .before .before .before .before .before .before .before .before .before .before .before .before .before .before .before .before .before .before .before .before .before .before .before .before .before .before .before .pre) _ (c .before .before .before .before .before .before .before .before .before .before .before .before .before .before .reach .ensures .0) _ (sym (ap reachCode (c .before .before .reply .given .1)))
 
 pub reach-over-spec : {M : Type 1} → statement M
 reach-over-spec =

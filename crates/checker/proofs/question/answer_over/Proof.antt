@@ -1,7 +1,7 @@
 -- `checker::answer_over` meets its contract. Assumes nothing.
 use native.Mathlib.Omega.{arith}
 use Rattle.automata.specs.Questions.{question}
-use Rattle.forms.specs.TableForm.{automatonOf}
+use Rattle.forms.specs.FormAutomaton.{automatonOf}
 use Rattle.forms.specs.QuestionForm.{rowsOf}
 use Rattle.checker.proofs.Asked.{ready, class-labels, lent-as, class-below, yes-reply, yes-contents, no-reply, no-contents}
 use borrow.Author.Needs.{needs}

@@ -1,11 +1,10 @@
 -- `checker::ask` meets its contract. Assumes nothing.
 use mathlib.Core.Path.{sym, _∙_}
-use lib.ListN.{length}
 use Rattle.opening.specs.Opening.{openTable}
 use Rattle.checker.proofs.OpenedTable.{Opened, told-opened, told-refused}
 use Rattle.checker.proofs.Filed.{Questioned, told-rows, told-question-refused, question-table-refused, ask-roomy, ask-cramped}
-use Rattle.checker.proofs.Asked.{ask-refused, ask-answered}
-use Rattle.checker.proofs.Meaning.{ask-means}
+use Rattle.checker.proofs.Asked.{refused-promise, answered-promise}
+use Rattle.claims.specs.Files.{askBuffers}
 use borrow.Author.Needs.{needs}
 use Rattle.checker.proofs.question.ask.Statement.{statement}
 use Rattle.checker.proofs.question.ask.Tie as tie
@@ -21,8 +20,8 @@ asked c = let q = c .before .before .read-rows .ensures in told-rows _ _ _ (open
 returns : tie.Need-returns
 returns c =
     let e = c .before .before .before .before .args in
-    let x = ask-refused _ _ (ask-cramped (length (e .rows .now)) (e .table .now) (e .question .now) (c .if1 .taken)) (e .rows .now) (e .contents .now) in
-    (x .0, x .1, x .2, ask-means (e .table .now) (e .question .now) _ (e .rows .now) _ _ _ (x .0) (x .1) (x .2))
+    let b = askBuffers (e .rows .now) (e .contents .now) in
+    refused-promise b (e .table .now) (e .question .now) _ (ask-cramped b (e .table .now) (e .question .now) (c .if1 .taken))
 
 slice-aggregate-read-rows : tie.Need-slice-aggregate-read-rows
 slice-aggregate-read-rows c = sym (opened (c .before) .readable .long)
@@ -47,23 +46,24 @@ answer-requires c κs =
 returns-2 : tie.Need-returns-2
 returns-2 c =
     let e = c .before .before .before .before .before .before .before .before .before .before .args in
+    let b = askBuffers (e .rows .now) (e .contents .now) in
     let d = told-refused (openTable (e .table .now)) _ _ (c .before .before .before .open-table .ensures .0) (c .before .opened .given .1) in
-    let x = ask-refused _ _ (ask-roomy (length (e .rows .now)) (e .table .now) (e .question .now) (c .before .before .before .before .before .before .if1 .left) ∙ question-table-refused (e .table .now) (e .question .now) _ d) (e .rows .now) (e .contents .now) in
-    (x .0, x .1, x .2, ask-means (e .table .now) (e .question .now) _ (e .rows .now) _ _ _ (x .0) (x .1) (x .2))
+    refused-promise b (e .table .now) (e .question .now) _ (ask-roomy b (e .table .now) (e .question .now) (c .before .before .before .before .before .before .if1 .left) ∙ question-table-refused (e .table .now) (e .question .now) _ d)
 
 returns-3 : tie.Need-returns-3
 returns-3 c =
     let e = c .before .before .before .before .before .before .before .before .before .before .before .before .before .before .before .args in
+    let b = askBuffers (e .rows .now) (e .contents .now) in
     let q = c .before .before .before .read-rows .ensures in
-    let x = ask-refused _ _ (ask-roomy (length (e .rows .now)) (e .table .now) (e .question .now) (c .before .before .before .before .before .before .before .before .before .before .before .if1 .left) ∙ told-question-refused (e .table .now) (e .question .now) _ (opened (c .before .before .before .before .before .before) .outcome) _ _ (q .0) (c .before .reply .given .1)) (e .rows .now) (e .contents .now) in
-    (x .0, x .1, x .2, ask-means (e .table .now) (e .question .now) _ (e .rows .now) _ _ _ (x .0) (x .1) (x .2))
+    let d = told-question-refused (e .table .now) (e .question .now) _ (opened (c .before .before .before .before .before .before) .outcome) _ _ (q .0) (c .before .reply .given .1) in
+    refused-promise b (e .table .now) (e .question .now) _ (ask-roomy b (e .table .now) (e .question .now) (c .before .before .before .before .before .before .before .before .before .before .before .if1 .left) ∙ d)
 
 returns-4 : tie.Need-returns-4
 returns-4 c =
     let e = c .before .before .before .before .before .before .before .before .before .before .before .before .before .before .before .before .before .before .before .before .before .before .before .args in
+    let b = askBuffers (e .rows .now) (e .contents .now) in
     let q = c .before .before .answer .ensures in
-    let x = ask-answered _ _ (ask-roomy (length (e .rows .now)) (e .table .now) (e .question .now) (c .before .before .before .before .before .before .before .before .before .before .before .before .before .before .before .before .before .before .before .if1 .left) ∙ asked (c .before .before .before .before .before .before .before .before .before) .files) _ _ _ _ _ (q .0) (q .1) (q .2) in
-    (x .0, x .1, x .2, ask-means (e .table .now) (e .question .now) _ (e .rows .now) _ _ _ (x .0) (x .1) (x .2))
+    answered-promise b (e .table .now) (e .question .now) _ (ask-roomy b (e .table .now) (e .question .now) (c .before .before .before .before .before .before .before .before .before .before .before .before .before .before .before .before .before .before .before .if1 .left) ∙ asked (c .before .before .before .before .before .before .before .before .before) .files) _ _ _ (q .0) (q .1) (q .2)
 
 pub ask-spec : {M : Type 1} → statement M
 ask-spec =

@@ -4,9 +4,9 @@ use mathlib.Core.Path.{refl, sym, ap}
 use lib.ListN.{replicate}
 use Rattle.forms.specs.TableForm.{formLength}
 use Rattle.opening.specs.Opening.{openTable}
-use Rattle.checker.specs.Replaying.{openedOf}
+use Rattle.checker.specs.OpenedValue.{openedOf}
 use Rattle.checker.proofs.OpenedTable.{told-opened, told-refused}
-use Rattle.checker.proofs.Replays.{value-refused}
+use Rattle.checker.proofs.OpenedValue.{value-refused}
 use borrow.Author.Needs.{needs}
 use Rattle.checker.proofs.replaying.opening.Statement.{statement}
 use Rattle.checker.proofs.replaying.opening.Tie as tie

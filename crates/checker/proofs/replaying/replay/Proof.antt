@@ -1,10 +1,14 @@
 -- `replaying::replay` meets its contract.
 -- Assumes nothing.
 use borrow.Author.Tests.{not-true, not-false}
-use mathlib.Core.Path.{sym, _∙_}
+use mathlib.Core.Path.{sym, ap, _∙_, subst⁻¹}
+use Rattle.claims.specs.Replaying.{replayOf, ReplayMeans}
+use Rattle.claims.specs.AnswerNumbers.{replayedNumbers}
+use Rattle.claims.proofs.ReplyNumbers.{replay-told}
+use Rattle.claims.proofs.Told.{replay-means}
 use Rattle.opening.specs.Opening.{openTable}
 use Rattle.checker.proofs.OpenedTable.{Opened, told-opened, told-refused}
-use Rattle.checker.proofs.Replays.{whole-is, short-refused, table-refused, run-judged}
+use Rattle.claims.proofs.Replays.{whole-is, short-refused, table-refused, run-judged}
 use borrow.Author.Needs.{needs}
 use Rattle.checker.proofs.replaying.replay.Statement.{statement}
 use Rattle.checker.proofs.replaying.replay.Tie as tie
@@ -14,7 +18,10 @@ opened : (c : tie.After-enum-told) → Opened (c .before .before .before .before
 opened c = let q = c .before .before .open-table .ensures in told-opened _ _ _ _ _ _ (q .0) (q .1) (q .2) (c .enum-told .given .1)
 
 returns : tie.Need-returns
-returns c = let a = c .before .before .before .before .args in short-refused (a .table .now) (a .run .now) (sym (c .before .whole .ensures) ∙ not-true _ (c .if1 .taken))
+returns c =
+    let a = c .before .before .before .before .args in
+    let x = short-refused (a .table .now) (a .run .now) (sym (c .before .whole .ensures) ∙ not-true _ (c .if1 .taken)) in
+    (x, ap replayedNumbers x ∙ replay-told (replayOf (a .table .now) (a .run .now)), subst⁻¹ (ReplayMeans (a .table .now) (a .run .now)) x (replay-means (a .table .now) (a .run .now)))
 
 slice-aggregate-replay : tie.Need-slice-aggregate-replay
 slice-aggregate-replay c = sym (opened (c .before) .readable .long)
@@ -25,12 +32,14 @@ replay-requires c κs = (opened (c .before) .readable, whole-is (c .before .befo
 returns-2 : tie.Need-returns-2
 returns-2 c =
     let a = c .before .before .before .before .before .before .before .before .before .before .before .before .args in
-    run-judged (a .table .now) (a .run .now) _ _ _ (sym (c .before .before .before .before .before .before .before .before .before .whole .ensures) ∙ not-false _ (c .before .before .before .before .before .before .before .before .if1 .left)) (opened (c .before .before .before) .outcome) (c .before .replay .ensures) (c .reply-of .ensures)
+    let x = run-judged (a .table .now) (a .run .now) _ _ _ (sym (c .before .before .before .before .before .before .before .before .before .whole .ensures) ∙ not-false _ (c .before .before .before .before .before .before .before .before .if1 .left)) (opened (c .before .before .before) .outcome) (c .before .replay .ensures) (c .reply-of .ensures) in
+    (x, ap replayedNumbers x ∙ replay-told (replayOf (a .table .now) (a .run .now)), subst⁻¹ (ReplayMeans (a .table .now) (a .run .now)) x (replay-means (a .table .now) (a .run .now)))
 
 returns-3 : tie.Need-returns-3
 returns-3 c =
     let a = c .before .before .before .before .before .before .before .before .before .before .args in
-    table-refused (a .table .now) (a .run .now) _ (sym (c .before .before .before .before .before .before .before .whole .ensures) ∙ not-false _ (c .before .before .before .before .before .before .if1 .left)) (told-refused (openTable (a .table .now)) _ _ (c .before .before .before .open-table .ensures .0) (c .before .reply .given .1))
+    let x = table-refused (a .table .now) (a .run .now) _ (sym (c .before .before .before .before .before .before .before .whole .ensures) ∙ not-false _ (c .before .before .before .before .before .before .if1 .left)) (told-refused (openTable (a .table .now)) _ _ (c .before .before .before .open-table .ensures .0) (c .before .reply .given .1)) in
+    (x, ap replayedNumbers x ∙ replay-told (replayOf (a .table .now) (a .run .now)), subst⁻¹ (ReplayMeans (a .table .now) (a .run .now)) x (replay-means (a .table .now) (a .run .now)))
 
 pub replay-spec : {M : Type 1} → statement M
 replay-spec =

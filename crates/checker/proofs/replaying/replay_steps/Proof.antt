@@ -2,7 +2,7 @@
 -- that is lent for a lifetime made for this call. All that the proof knows of the six callees is that they meet their contracts.
 -- Local i of the eleven stands at 24 - 2 * i, behind the table's token and what it owns, and the run's. Nothing of a parameter is had at exit (`drops`).
 -- Assumes nothing.
-use mathlib.Core.Path.{_≡_, refl, sym, ap, _∙_, subst}
+use mathlib.Core.Path.{_≡_, refl, sym, ap, _∙_, subst, subst⁻¹}
 use Prim.Native.Nat.{ℕ, _<_, _^_}
 use mathlib.Core.List.{List, [], _∷_}
 use lib.Dec.{T as Holds, lit<}
@@ -46,7 +46,8 @@ use denote.Triple.Table.{entered, cited}
 use denote.Triple.Walked.{says, Stays, walkOf, Walks, ends-at, walked, walk-meets}
 use Rattle.struct_slices.specs.Lent.{array-in, array-out}
 use Rattle.struct_slices.specs.Walk.{drops, drops-go, asks, answers}
-use Rattle.forms.specs.TableForm.{automatonOf, formLength}
+use Rattle.forms.specs.TableForm.{formLength}
+use Rattle.forms.specs.FormAutomaton.{automatonOf}
 use Rattle.refusals.specs.Judged.Judged.{accepted}
 use Rattle.forms.specs.Readable.{Readable}
 use Rattle.opening.specs.Opening.{openTable}
@@ -55,16 +56,21 @@ use Rattle.replay.specs.declared.Step.{Step}
 use Rattle.replay.specs.declared.Verdict.{Verdict}
 use Rattle.replay.specs.Judge.{judge}
 use Rattle.checker.specs.declared.Opened.{Opened}
-use Rattle.checker.specs.declared.Replayed.{Replayed}
-use Rattle.checker.specs.Replaying.{replied, replayStepsReply, openedOf, openedRefusal}
-use Rattle.checker.proofs.Replays.{usable, value-reply, steps-reply}
+use Rattle.claims.specs.declared.Replayed.{Replayed}
+use Rattle.claims.specs.Replaying.{replied, replayStepsOf, replayStepsReply, ReplayStepsMean}
+use Rattle.claims.specs.AnswerNumbers.{replayedNumbers}
+use Rattle.claims.proofs.ReplyNumbers.{replay-told}
+use Rattle.claims.proofs.Told.{replay-steps-mean}
+use Rattle.checker.specs.OpenedValue.{openedOf, openedRefusal}
+use Rattle.claims.proofs.Replays.{steps-reply}
+use Rattle.checker.proofs.OpenedValue.{usable, value-reply}
 use Rattle.replay.proofs.Step as S
 use Rattle.replay.proofs.Verdict as Ver
 use Rattle.replay.proofs.Verdict.Laws as Ver′
 use Rattle.checker.proofs.Opened as O
 use Rattle.checker.proofs.Opened.Laws as O′
-use Rattle.checker.proofs.Replayed as Rep
-use Rattle.checker.proofs.Replayed.Laws as Rep′
+use Rattle.claims.proofs.Replayed as Rep
+use Rattle.claims.proofs.Replayed.Laws as Rep′
 use Rattle.replay.proofs.replay_steps as steps
 use Rattle.replay.proofs.replay_steps.Symbol as steps-def
 use Rattle.replay.proofs.replay_steps.Symbol.{name as #replay·replay-steps}
@@ -200,7 +206,7 @@ module _ {M : Type 1} (𝓤 : URA M) (H : Heap 𝓤) (A : Atoms 𝓤) (W : Given
 
   exits : (r : Replayed) (u : Val) → Is Rep.the-row r (u ∷ []) → r ≡ replayStepsReply table cs ys → ent 𝓤 (⋆ 𝓤 H A (‵ (flft κ q) ∷ ‵ (flft κ′ q₁) ∷ [])) (Post u)
   exits r u is e =
-      qed W (‵ (flft κ q) ∷ ‵ (flft κ′ q₁) ∷ []) ∵ suffices ! _ (ends-at 𝓤 H A here.ended stayed (here.clauses 𝓤 H A mem run) W bound u r (tt, (tt, (tt, tt))) (tt, (tt, (tt, tt)))) $ says ! e $
+      qed W (‵ (flft κ q) ∷ ‵ (flft κ′ q₁) ∷ []) ∵ suffices ! _ (ends-at 𝓤 H A here.ended stayed (here.clauses 𝓤 H A mem run) W bound u r (tt, (tt, (tt, tt))) (tt, (tt, (tt, tt)))) $ says ! (e, ap replayedNumbers e ∙ replay-told (replayStepsOf table cs ys), subst⁻¹ (ReplayStepsMean table cs ys) e (replay-steps-mean table cs ys)) $
       nothing ! $ move ! (2 ∷ 0 ∷ []) $ join ! $ move ! (1 ∷ 0 ∷ []) $ join ! $ frame ! $ nothing ! $ nothing ! $ fjoin ! $ nothing ! $ fjoin ! $ nothing ! $ fjoin ! $ frame ! $
       owned ! Rep.the-row (Is Rep.the-row) (EL.makes Rep.the-type Rep′.the-plain 𝓤 H A) r _ is $ done !
 

@@ -1,7 +1,7 @@
 -- `replaying::reply_of` meets its contract.
 -- Assumes nothing.
 use borrow.Author.Needs.{needs}
-use Rattle.checker.specs.Replaying.{replied}
+use Rattle.claims.specs.Replaying.{replied}
 use mathlib.Core.Path.{sym, ap}
 use Rattle.checker.proofs.replaying.reply_of.Statement.{statement}
 use Rattle.checker.proofs.replaying.reply_of.Tie as tie

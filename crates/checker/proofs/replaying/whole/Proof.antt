@@ -1,6 +1,6 @@
 -- `replaying::whole` meets its contract.
 -- Assumes nothing.
-use Rattle.checker.proofs.Replays.{whole-short, whole-long}
+use Rattle.claims.proofs.Replays.{whole-short, whole-long}
 use native.Mathlib.Omega.{arith}
 use Rattle.checker.proofs.replaying.whole.Statement.{statement}
 use Rattle.checker.proofs.replaying.whole.Tie as tie

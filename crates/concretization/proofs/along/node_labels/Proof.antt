@@ -7,9 +7,6 @@ use Rattle.concretization.proofs.Nodes.{some-class, class-below, class-
 use Rattle.concretization.proofs.along.node_labels.Statement.{statement}
 use Rattle.concretization.proofs.along.node_labels.Tie as tie
 
-rem-class-row : tie.Need-rem-class-row
-rem-class-row c = let e = c .before .before in omega (arith, some-class (e .args .form .now) (e .args .cat .now) (e .args .n) (e .pre .0) (e .args .node) (e .pre .1))
-
 class-row-requires : tie.Need-class-row-requires
 class-row-requires c κs = let e = c .before .before in (e .pre .0, class-below (e .args .form .now) (e .args .cat .now) (e .args .n) (e .pre .0) (e .args .node) (e .pre .1))
 
@@ -17,4 +14,9 @@ returns : tie.Need-returns
 returns c = let e = c .before .before .before in c .class-row .ensures ∙ ap (padded 5) (class-is (e .args .form .now) (e .args .cat .now) (e .args .n) (e .pre .0) (e .args .node) (e .pre .1))
 
 pub node-labels-spec : {M : Type 1} → statement M
-node-labels-spec = tie.close (tie.spec rem-class-row class-row-requires returns)
+node-labels-spec =
+    tie.close
+    (tie.spec
+    (λ c. let e = c .before .before in omega (arith, some-class (e .args .form .now) (e .args .cat .now) (e .args .n) (e .pre .0) (e .args .node) (e .pre .1)))
+    class-row-requires
+    returns)

@@ -3,7 +3,7 @@
 use mathlib.Core.Path.{_≡_}
 use native.Mathlib.Omega.{arith}
 use Rattle.automata.specs.Runs.{initial}
-use Rattle.forms.specs.TableForm.{automatonOf}
+use Rattle.forms.specs.FormAutomaton.{automatonOf}
 use Rattle.concretization.specs.PathRuns.{standOf, pathContents}
 use Rattle.concretization.proofs.RunsAlong.{going-first, run-done, lines-done}
 use borrow.Author.Needs.{needs}
@@ -15,23 +15,8 @@ stands : (c : tie.After-start) → (let e = c .before .before .before .before .b
     record { place = c .start .result; contents = c .before .before .before .before .before .before .contents-at .result } ≡ standOf (initial (automatonOf (e .args .form .now)) (pathContents (automatonOf (e .args .form .now)) (e .args .path .now))))
 stands c = λ i. record { place = c .start .ensures .0 i; contents = c .before .before .before .before .before .before .contents-at .ensures i }
 
-cast-contents-at : tie.Need-cast-contents-at
-cast-contents-at c = omega (arith, c .shared-slice-known4 .given 0)
-
-contents-at-requires : tie.Need-contents-at-requires
-contents-at-requires c κs = let e = (c .before .before .before .before .before .before) in (e .pre .0, e .pre .1 .low 0 (omega arith))
-
-start-requires : tie.Need-start-requires
-start-requires c κs = c .before .before .before .before .before .before .before .before .before .before .before .before .pre .0 .readable
-
-cast-place : tie.Need-cast-place
-cast-place c = omega (arith, c .start .ensures .2)
-
 registers-requires : tie.Need-registers-requires
 registers-requires c κs = c .before .before .before .before .before .before .before .before .before .before .before .before .before .pre .0 .readable
-
-line-requires : tie.Need-line-requires
-line-requires c κs = (c .registers .ensures .1, omega arith)
 
 write-moves-requires : tie.Need-write-moves-requires
 write-moves-requires c κs =
@@ -59,14 +44,14 @@ write-run-spec =
     tie.close
     (tie.spec
     (λ c. search needs)
-    cast-contents-at
-    contents-at-requires
+    (λ c. omega (arith, c .shared-slice-known4 .given 0))
+    (λ c κs. let e = (c .before .before .before .before .before .before) in (e .pre .0, e .pre .1 .low 0 (omega arith)))
     (λ c. search needs)
     (λ c κs. search needs)
-    start-requires
-    cast-place
+    (λ c κs. c .before .before .before .before .before .before .before .before .before .before .before .before .pre .0 .readable)
+    (λ c. omega (arith, c .start .ensures .2))
     registers-requires
-    line-requires
+    (λ c κs. (c .registers .ensures .1, omega arith))
     (λ c. search needs)
     (λ c κs. search needs)
     write-moves-requires

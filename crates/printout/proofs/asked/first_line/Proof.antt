@@ -1,19 +1,20 @@
 -- `printout::asked::first_line` meets its contract: the numbers of an answer. Assumes nothing.
-use Prim.Native.Nat.{_+_, _≤_}
+use Prim.Native.Nat.{_+_, _≤_, _<_}
 use mathlib.Core.Path.{refl, sym, ap, _∙_, subst}
 use mathlib.Core.List.{[], _∷_}
 use lib.ListN.{getD}
 use lib.Seq.{length-take-le}
 use native.Mathlib.Nat.{min-le-right}
 use native.Mathlib.Omega.{arith}
-use Rattle.printout.specs.AnswerNumbers.{classOf, askNumbers}
-use Rattle.printout.proofs.Bytes.{five-taken}
+use Rattle.claims.specs.AnswerNumbers.{askNumbers}
+use Rattle.printout.specs.PrintedLines.{classOf}
+use Rattle.printout.proofs.MomentSlots.{five-taken}
 use borrow.Author.Needs.{needs}
 use Rattle.printout.proofs.asked.first_line.Statement.{statement}
 use Rattle.printout.proofs.asked.first_line.Tie as tie
 
 cast-t11 : tie.Need-cast-t11
-cast-t11 c = let h : c .before .before .reply .given .0 .0 ≤ 673 = subst (λ r. classOf r ≤ 673) (c .before .before .reply .given .1) (c .before .before .before .before .pre) in omega arith
+cast-t11 c = let h : c .before .before .reply .given .0 .0 < 1000000 = subst (λ r. classOf r < 1000000) (c .before .before .reply .given .1) (c .before .before .before .before .pre) in omega arith
 
 returns : tie.Need-returns
 returns c = (omega arith, (omega arith, refl), sym (ap (λ r. askNumbers r (c .before .before .args .t2)) (c .enum-told .given .1)))

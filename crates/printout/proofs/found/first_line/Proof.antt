@@ -2,7 +2,8 @@
 use Prim.Native.Nat.{suc, _≤_}
 use mathlib.Core.Path.{refl, sym, ap, subst}
 use native.Mathlib.Omega.{arith}
-use Rattle.printout.specs.AnswerNumbers.{reachNumbers, momentCount}
+use Rattle.claims.specs.AnswerNumbers.{reachNumbers}
+use Rattle.printout.specs.PrintedLines.{momentCount}
 use borrow.Author.Needs.{needs}
 use Rattle.printout.proofs.found.first_line.Statement.{statement}
 use Rattle.printout.proofs.found.first_line.Tie as tie

@@ -2,7 +2,7 @@
 use Prim.Native.Nat.{suc, _≤_}
 use mathlib.Core.Path.{_≡_, ap, subst}
 use native.Mathlib.Omega.{arith}
-use Rattle.printout.specs.AnswerNumbers.{momentCount}
+use Rattle.printout.specs.PrintedLines.{momentCount}
 use borrow.Author.Needs.{needs}
 use Rattle.printout.proofs.found.moments.Statement.{statement}
 use Rattle.printout.proofs.found.moments.Tie as tie

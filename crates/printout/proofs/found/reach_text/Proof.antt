@@ -1,31 +1,37 @@
 -- `printout::found::reach_text` meets its contract: the printout of what the checker returns. Assumes nothing.
-use Prim.Native.Nat.{ℕ, _≤_}
-use mathlib.Core.Path.{_≡_, refl, sym, _∙_, subst}
-use lib.ListN.{length, replicate, length-replicate}
-use Rattle.printout.specs.AnswerNumbers.{momentCount}
-use Rattle.printout.proofs.PrintedBounds.{moments-few}
-use Rattle.printout.proofs.Whole.{found-whole}
+use mathlib.Core.Path.{subst}
+use lib.Dec.{T}
+use lib.ListN.{replicate}
+use Rattle.claims.specs.Files.{ReachBuffers, reachBuffers, searchRoom}
+use Rattle.printout.specs.Text.{Put}
+use Rattle.printout.proofs.PrintoutMeaning.{moments-few, found-lines, reach-printout}
 use borrow.Author.Needs.{needs}
 use Rattle.printout.proofs.found.reach_text.Statement.{statement}
 use Rattle.printout.proofs.found.reach_text.Tie as tie
 
-size : (n : ℕ) → length (replicate {A = ℕ} n 0) ≡ n
-size n = length-replicate {0} {A = ℕ} n 0
+-- the memory that is lent to the checker
+abbrev buffers : ReachBuffers
+buffers = reachBuffers (replicate 337 0) (replicate 10784 0) (replicate 10784 0) (replicate 97061 0) (replicate 129420 0)
 
-write-requires : tie.Need-write-requires
-write-requires c κs =
-    let a = c .before .before .before .before .before .before .before .before .before .before .before .before .before .before .before .args in (
-      subst (λ r. momentCount r ≤ 10785) (sym (c .before .before .before .before .before .before .before .reach .ensures .0)) (moments-few _ _ _ _ _ (a .table .now) (a .target .now)),
-      search needs,
-      search needs,
-    )
+room : T (searchRoom buffers)
+room = tt
+
+put-answer-requires : tie.Need-put-answer-requires
+put-answer-requires c κs =
+    let a = c .before .before .before .before .before .before .before .before .before .before .before .before .before .before .before .before .args in
+    let k = c .before .before .before .before .before .before .before .reach .ensures in
+    (moments-few (a .table .now) (a .target .now) buffers room _ _ (k .0) (k .6), search needs, search needs)
 
 returns : tie.Need-returns
 returns c =
-    let a = c .before .before .before .before .before .before .before .before .before .before .before .before .before .before .before .before .args in
-    let k = c .before .before .before .before .before .before .before .before .reach .ensures in
-    let w = c .write .ensures in
-    (w .0, w .1 ∙ found-whole (a .table .now) (a .target .now) _ _ _ _ _ _ _ _ (size 337) (size 10784) (size 10784) (size 97061) (size 129420) (k .0) (k .5) refl)
+    let a = c .before .before .before .before .before .before .before .before .before .before .before .before .before .before .before .before .before .before .before .args in
+    let k = c .before .before .before .before .before .before .before .before .before .before .reach .ensures in
+    let w = c .before .before .put-answer in
+    record {
+      put = subst (λ ls. Put ls 0 (w .result) (a .text .now) (w .last .0)) (found-lines (a .table .now) (a .target .now) buffers room _ _ (k .0) (k .6)) (w .ensures .0);
+      counts = w .ensures .1;
+      means = reach-printout (a .table .now) (a .target .now);
+    }
 
 pub reach-text-spec : {M : Type 1} → statement M
 reach-text-spec =
@@ -38,5 +44,6 @@ reach-text-spec =
     (λ c. search needs)
     (λ c κs. search needs)
     (λ c. search needs)
-    write-requires
+    put-answer-requires
+    (λ c. search needs)
     returns)

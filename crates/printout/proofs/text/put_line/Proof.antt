@@ -4,7 +4,7 @@ use mathlib.Core.Path.{refl, sym}
 use native.Mathlib.Omega.{arith}
 use lib.ListN.{length, set, length-set}
 use lib.Seq.{length-take-le}
-use Rattle.printout.proofs.Bytes.{line-ends}
+use Rattle.printout.proofs.PutLines.{put-ended}
 use borrow.Author.Needs.{needs}
 use Rattle.printout.proofs.text.put_line.Statement.{statement}
 use Rattle.printout.proofs.text.put_line.Tie as tie
@@ -15,7 +15,7 @@ returns c =
     let p = c .before .before .put-numbers in
     let end = a .at + 6 * length (a .numbers .now) in
     let h : end + 1 ≤ length (set (p .last .0) end 10) = simp length-set (omega (arith, c .before .text .given)) in
-    (refl, (h, sym (length-take-le (end + 1) (set (p .last .0) end 10) h)), line-ends (p .last .0) (a .text .now) (a .numbers .now) (a .at) end (end + 1) (omega arith) (omega (arith, c .before .text .given)) (p .ensures))
+    (put-ended (a .numbers .now) (a .at) end (end + 1) (a .text .now) (p .last .0) refl refl (p .ensures), (h, sym (length-take-le (end + 1) (set (p .last .0) end 10) h)))
 
 pub put-line-spec : {M : Type 1} → statement M
 put-line-spec =

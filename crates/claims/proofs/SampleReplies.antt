@@ -1,0 +1,77 @@
+-- The sample's replies are as document 01 has them.
+-- Assumes nothing.
+use Prim.Native.Nat.{ℕ}
+use mathlib.Core.List.{List, [], _∷_, flatMap, zipWith, List·Memᴰ, List·Memᴰ·cases-cons, List·Memᴰ·not-nil}
+use mathlib.Core.Logic.{⊎-elim}
+use mathlib.Core.Option.{none, some}
+use mathlib.Core.Path.{_≡_, refl, ap, _∙_, subst, subst⁻¹}
+use lib.Dec.{T}
+use lib.ListN.{length}
+use Rattle.graphs.specs.Search.{Walk}
+use Rattle.graphs.specs.Search.Walk.{start, _▸_}
+use Rattle.graphs.proofs.Search.{queue-invariant}
+use Rattle.automata.specs.Automaton.{Automaton}
+use Rattle.automata.specs.Runs.{Move, Target}
+use Rattle.automata.specs.Questions.{question}
+use Rattle.automata.specs.ConfigurationGraph.{rows, starts}
+use Rattle.automata.specs.WellFormed.{limited}
+use Rattle.automata.specs.Answers.{nearestTo, failing}
+use Rattle.automata.specs.Examples.{sample, loose, delivered, deliveredByOne}
+use Rattle.moves.specs.PathMoves.{walkContents, walkMoves}
+use Rattle.moves.proofs.Limits.{limited-roomy}
+use Rattle.moves.specs.Taken.{Taken}
+use Rattle.moves.proofs.Taken.{taken}
+use Rattle.moves.proofs.SampleMoves.{walk, sample-walk, looseWalk, loose-walk}
+use Rattle.reach.specs.Reaching.{found}
+use Rattle.reach.proofs.Queue.{counted}
+use Rattle.reach.proofs.StepGraph.{graph-fits}
+use Rattle.witness.specs.Printed.{reachedCount}
+use Rattle.witness.proofs.SampleRun.{sample-count}
+use Rattle.writing.specs.Said.{TableFile, TargetFile}
+use Rattle.writing.proofs.Sample.{sample-says, loose-says, delivered-says, delivered-by-one-says, loose-by-one-says, always-says, inevitable-says, alwaysRows, inevitableRows}
+use Rattle.claims.specs.Files.{targetFiles}
+use Rattle.claims.specs.ReachReply.{foundReply, reachReply}
+use Rattle.claims.specs.AskReply.{askedReply}
+use Rattle.claims.specs.declared.Reaching.the-variants.{Never, Reached}
+use Rattle.claims.specs.SampleReplies.{Sample, Shows, samples}
+use Rattle.claims.proofs.Meaning.{reach-reply, ask-reply}
+
+-- as many configurations are reached as walks are found
+found-count : (a : Automaton) → T (limited a) → (q : List Walk) → found a ≡ q → reachedCount a ≡ length q
+unfolding found
+found-count a lim q e = counted (rows a) (starts a) (queue-invariant (rows a) (starts a) (length (rows a))) 10784 (graph-fits a lim) ∙ ap length e
+
+loose-found : found loose ≡ start 0 ∷ start 0 ▸ 7 ∷ start 0 ▸ 7 ▸ 11 ∷ looseWalk ∷ start 0 ▸ 7 ▸ 14 ∷ []
+unfolding found flatMap
+loose-found = refl
+
+unreached : nearestTo sample deliveredByOne ≡ none
+unfolding flatMap
+unreached = refl
+
+always-fails : failing sample (question alwaysRows) ≡ some 0
+unfolding flatMap zipWith
+always-fails = refl
+
+inevitable-holds : failing sample (question inevitableRows) ≡ none
+unfolding flatMap zipWith
+inevitable-holds = refl
+
+-- the run along the walk that is found
+shown : (s g : List ℕ) (a : Automaton) (x : Target) (w : Walk) (n count : ℕ) (v : List ℕ) (ms : List Move) → TableFile s a → TargetFile a g x → nearestTo a x ≡ some w
+    → foundReply a (some w) ≡ Reached n count → walkContents a w ≡ v → walkMoves 15 a w ≡ ms
+    → (reachReply (targetFiles s g) ≡ Reached n count) × ((a : Automaton) × (x : Target) × TableFile s a × TargetFile a g x × Taken 15 a x v ms)
+shown s g a x w n count v ms file target e r c m = (
+  reach-reply s g a x file target ∙ ap (foundReply a) e ∙ r,
+  (a, x, file, target, subst (Taken 15 a x v) m (subst (λ u. Taken 15 a x u (walkMoves 15 a w)) c (taken a (file .fits) 15 (limited-roomy a (file .fits) (file .small)) x (target .fits) w e))),
+)
+
+pub samples-hold : (c : Sample) → List·Memᴰ c samples → Shows c
+unfolding flatMap
+samples-hold c m =
+    ⊎-elim (λ e. subst⁻¹ Shows e (shown _ _ sample delivered walk 2 3 _ _ sample-says delivered-says sample-walk (ap (Reached 2) sample-count) refl refl))
+    (λ m. ⊎-elim (λ e. subst⁻¹ Shows e (reach-reply _ _ sample deliveredByOne sample-says delivered-by-one-says ∙ ap (foundReply sample) unreached ∙ ap Never sample-count))
+    (λ m. ⊎-elim (λ e. subst⁻¹ Shows e (shown _ _ loose deliveredByOne looseWalk 2 5 _ _ loose-says loose-by-one-says loose-walk (ap (Reached 2) (found-count loose tt _ loose-found)) refl refl))
+    (λ m. ⊎-elim (λ e. subst⁻¹ Shows e (ask-reply _ _ sample alwaysRows sample-says always-says ∙ ap (askedReply sample) always-fails))
+    (λ m. ⊎-elim (λ e. subst⁻¹ Shows e (ask-reply _ _ sample inevitableRows sample-says inevitable-says ∙ ap (askedReply sample) inevitable-holds))
+    (λ m. absurd (List·Memᴰ·not-nil m)) (List·Memᴰ·cases-cons m)) (List·Memᴰ·cases-cons m)) (List·Memᴰ·cases-cons m)) (List·Memᴰ·cases-cons m)) (List·Memᴰ·cases-cons m)

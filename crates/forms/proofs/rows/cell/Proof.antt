@@ -1,0 +1,13 @@
+-- `forms::cell` meets its contract. Assumes nothing.
+use borrow.Author.Needs.{needs}
+use lib.ListN.{List·getD-eq-default}
+use mathlib.Core.Path.{sym}
+use Rattle.forms.proofs.rows.cell.Statement.{statement}
+use Rattle.forms.proofs.rows.cell.Tie as tie
+
+returns-2 : tie.Need-returns-2
+returns-2 c = sym (List·getD-eq-default (c .before .args .form .now) 0 (c .if1 .left))
+
+pub cell-spec : {M : Type 1} → statement M
+cell-spec =
+    tie.close (tie.spec (λ c. search needs) (λ c. search needs) (λ c. search needs) (λ c. search needs) (λ c. search needs) returns-2)

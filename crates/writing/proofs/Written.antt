@@ -1,0 +1,70 @@
+-- What is written is read back: the table of every well-formed automaton within the limits (`table-written`), and every target that fits (`target-written`).
+-- Assumes nothing.
+use Prim.Native.Nat.{ℕ, _*_, _≤_}
+use mathlib.Core.List.{List, [], _∷_, map}
+use mathlib.Core.Path.{_≡_, sym, ap}
+use native.Mathlib.Omega.{arith}
+use lib.Dec.{T}
+use lib.Ieee.Fits.{and-l, and-r}
+use lib.ListN.{length, length-append}
+use Rattle.refusals.specs.Judged.{_then_}
+use Rattle.refusals.specs.Judged.Judged.{accepted}
+use Rattle.graphs.specs.Lists.{allOf}
+use Rattle.automata.specs.Automaton.{Condition, Automaton}
+use Rattle.automata.specs.Runs.{Target}
+use Rattle.automata.specs.WellFormed.{inside, fitsCondition, fitsConditions, wellFormed, limited, fitsTarget}
+use Rattle.forms.specs.TableForm.{countsRow, cell}
+use Rattle.forms.specs.FormAutomaton.{automatonOf, targetOf}
+use Rattle.reader.specs.TableRules.{atStart, beforeTarget}
+use Rattle.reader.specs.Table.{tableRules, readForm, readTable, readTarget}
+use Rattle.reader.proofs.Shape.{Legal}
+use Rattle.reader.proofs.LegalForms.{target-legal}
+use Rattle.forms.proofs.Forms.{constant-count}
+use Rattle.columns.specs.Columns.{columns, fileBytes}
+use Rattle.writing.specs.Lines.{conditionLine, tableLines, targetLines, tableBytes, targetBytes, sixDigits}
+use Rattle.columns.proofs.Columns.{columns-length}
+use Rattle.writing.proofs.Reading.{taken-short, file-read}
+use Rattle.writing.proofs.Canonical.{begun, lines-table, lines-target}
+use Rattle.writing.proofs.Injective.{table-injective, target-injective}
+use Rattle.writing.proofs.LinesTaken.{table-taken, target-taken}
+
+-- that the file is not overlong needs no hypothesis: it has at most as many lines as a form has rows, of at most 37 bytes
+pub table-written : (a : Automaton) → T (wellFormed a) → T (limited a) → T (sixDigits a) → (t : List ℕ) × (readTable (tableBytes a) ≡ accepted t) × (automatonOf t ≡ a)
+table-written a wf lim six =
+    let (u, taken) = table-taken a lim wf six in
+    let (lines, few) = lines-table (tableLines a) u taken in
+    let short : length (tableBytes a) ≤ 40000 = omega (arith, taken-short tableRules (tableLines a) (begun atStart) u taken) in (
+      u .form,
+      ap (λ o. _then_ o (λ x. accepted (x .form))) (file-read tableRules 1 u 40000 (begun atStart) (tableLines a) short taken),
+      sym (table-injective a (automatonOf (u .form)) lines),
+    )
+
+-- Targets
+
+conditions-length : (gs : List Condition) → length (fileBytes (map (conditionLine 5) gs)) ≡ 37 * length gs
+conditions-length [] = omega arith
+conditions-length (g ∷ gs) =
+    omega (arith, conditions-length gs, length-append (columns 6 (conditionLine 5 g)) (10 ∷ fileBytes (map (conditionLine 5) gs)), columns-length 6 (conditionLine 5 g))
+
+target-short : (g : Target) → length (g .conditions) ≤ 8 → length (targetBytes g) ≤ 309
+target-short g h =
+    let rest : List ℕ = fileBytes (map (conditionLine 5) (g .conditions)) in
+    omega (arith, conditions-length (g .conditions), length-append (columns 6 (4 ∷ g .location ∷ [])) (10 ∷ rest), columns-length 6 (4 ∷ g .location ∷ []))
+
+-- of a table with these counts
+pub aim-written : (r c l : ℕ) (g : Target) → r ≤ 5 → c ≤ 2 → l ≤ 16 → T (inside l (g .location)) → T (allOf (fitsCondition c r 0) (g .conditions)) → length (g .conditions) ≤ 8
+    → (u : List ℕ) × (readForm 2 309 (beforeTarget r c l) (targetBytes g) ≡ accepted u) × (targetOf u ≡ g)
+aim-written r c l g x y z h k m =
+    let (u, taken) = target-taken r c l g x y z h k m in
+    let read : readForm 2 309 (beforeTarget r c l) (targetBytes g) ≡ accepted (u .form) =
+    ap (λ o. _then_ o (λ x. accepted (x .form))) (file-read tableRules 2 u 309 (begun (beforeTarget r c l)) (targetLines g) (target-short g m) taken) in
+    (u .form, read, sym (target-injective g (targetOf (u .form)) (lines-target r c l (targetLines g) u x y z taken (target-legal r c l (targetBytes g) (u .form) x y z read))))
+
+-- of the table with the form t
+pub target-written : (t : List ℕ) (g : Target) → Legal t → T (fitsTarget (automatonOf t) g) → length (g .conditions) ≤ 8
+    → (u : List ℕ) × (readTarget t (targetBytes g) ≡ accepted u) × (targetOf u ≡ g)
+unfolding automatonOf
+target-written t g n f h =
+    let there = and-l (inside (cell t countsRow 3) (g .location)) (fitsConditions (automatonOf t) (g .conditions)) f in
+    let fits : T (allOf (fitsCondition (cell t countsRow 2) (cell t countsRow 1) 0) (g .conditions)) = rw (constant-count t) at (and-r (inside (cell t countsRow 3) (g .location)) (fitsConditions (automatonOf t) (g .conditions)) f) in
+    aim-written (cell t countsRow 1) (cell t countsRow 2) (cell t countsRow 3) g (n .registers) (n .constants) (n .locations .1) there fits h

@@ -1,0 +1,125 @@
+//! The data of the program `test_answers`: files by name, and the printouts for them.
+//!
+//! Case NN has NN.table and NN.target or NN.question, of which one may be missing or a folder. The program prints the
+//! case's number on a line, then what the reaching or the asking program prints for these files.
+
+use super::{concat_lines, fresh_data, sample_table, sample_without};
+use crate::answer::{ask, reach};
+use crate::cases::bytes;
+use crate::print::{asked, fields, reached, Form};
+use std::fs;
+use std::io;
+use std::path::Path;
+
+enum Part {
+    File(Vec<u8>),
+    Missing,
+    /// A folder in the place of a file: it can be opened and not read.
+    Folder,
+}
+
+use Part::{File, Folder, Missing};
+
+enum Case {
+    Reach(Part, Part),
+    Ask(Part, Part),
+}
+
+use Case::{Ask, Reach};
+
+fn cases() -> Vec<Case> {
+    let sample = || File(sample_table());
+    let lines = |l: &[&[usize]]| File(concat_lines(l));
+    let third = || lines(&[&[4, 3]]);
+    let equal = || lines(&[&[4, 3], &[5, 1, 1, 1, 1, 2]]);
+    let inevitable = || lines(&[&[1, 3, 0], &[14, 1, 0]]);
+    let six_registers = {
+        let mut table = sample_table();
+        table.splice(
+            ..fields(&[1, 2, 1, 3, 2, 2]).len(),
+            fields(&[1, 6, 1, 3, 2, 2]).into_bytes(),
+        );
+        File(table)
+    };
+    let wide = lines(&[
+        &[1, 5, 2, 1, 1, 0],
+        &[2, 0],
+        &[2, 1],
+        &[3, 0],
+        &[4, 1],
+        &[5, 1, 1, 2, 3, 1],
+        &[5, 1, 1, 2, 3, 2],
+        &[5, 1, 2, 2, 1, 1],
+        &[5, 1, 3, 2, 1, 2],
+        &[5, 1, 4, 1, 3, 2],
+    ]);
+    let all_but = lines(&[&[2, 1, 5], &[4, 1, 0], &[3, 4, 2], &[5, 2, 3], &[4, 4, 0]]);
+    vec![
+        // 1 to 3: document 01's sample, place 3; with registers equal; the same without line 8 1 1 1.
+        Reach(sample(), third()),
+        Reach(sample(), equal()),
+        Reach(File(sample_without(&[8, 1, 1, 1])), equal()),
+        // 4, 5: the two folders of examples/.
+        Reach(File(sample_without(&[7, 2, 1, 2, 1, 1])), equal()),
+        Reach(sample(), equal()),
+        // A run of no steps.
+        Reach(sample(), lines(&[&[4, 1]])),
+        // 7, 8: a table and a target that are turned back.
+        Reach(File(sample_table()[..163].to_vec()), third()),
+        Reach(sample(), lines(&[&[4, 4]])),
+        // 9, 10: one of them missing.
+        Reach(Missing, third()),
+        Reach(sample(), Missing),
+        // 11, 12: the sample, EG of register 1 = register 1; AF place 3.
+        Ask(sample(), lines(&[&[2, 1, 1], &[8, 1, 0]])),
+        Ask(sample(), inevitable()),
+        // 13, 14: a table and a question that are turned back.
+        Ask(six_registers, inevitable()),
+        Ask(sample(), lines(&[&[1, 3, 0], &[14, 2, 0]])),
+        // 15, 16: one of them missing.
+        Ask(Missing, inevitable()),
+        Ask(sample(), Missing),
+        // 17: a no with five registers and two constants.
+        Ask(wide, all_but),
+        // 18 to 21: a folder in the place of a file.
+        Reach(Folder, third()),
+        Reach(sample(), Folder),
+        Ask(Folder, inevitable()),
+        Ask(sample(), Folder),
+    ]
+}
+
+fn write_part(path: &Path, part: &Part) -> io::Result<()> {
+    match part {
+        File(bytes) => fs::write(path, bytes),
+        Missing => Ok(()),
+        Folder => {
+            // Git keeps no empty folder.
+            fs::create_dir(path)?;
+            fs::write(path.join("folder"), "This folder stands in the place of a file.\n")
+        }
+    }
+}
+
+/// Writes FOLDER/data and FOLDER/stdout.
+pub fn write(folder: &Path) -> io::Result<()> {
+    let data = fresh_data(folder)?;
+    let mut text = String::new();
+    for (i, case) in cases().iter().enumerate() {
+        let (kind, table, other) = match case {
+            Reach(table, target) => ("target", table, target),
+            Ask(table, question) => ("question", table, question),
+        };
+        let paths = ["table", kind].map(|k| data.join(format!("{:02}.{k}", i + 1)));
+        write_part(&paths[0], table)?;
+        write_part(&paths[1], other)?;
+        // As the program finds them: what cannot be read is empty.
+        let [table, other] = paths.map(|p| bytes(&p));
+        text += &fields(&[i + 1]);
+        text += &match case {
+            Reach(..) => reached(Form::Fields, &reach(&table, &other, None)),
+            Ask(..) => asked(Form::Fields, &ask(&table, &other, None)),
+        };
+    }
+    fs::write(folder.join("stdout"), text)
+}
