@@ -1,13 +1,14 @@
 -- The numbers of a line have at most six digits, and each has six bytes. Assumes nothing.
-use Prim.Native.Nat.{ℕ, zero, suc, _+_, _*_, _-_, _<_, _≤_}
+use Prim.Native.Nat.{ℕ, zero, suc, _+_, _*_, _<_, _≤_}
 use mathlib.Core.Bool.{Bool, true, false, cond}
-use mathlib.Core.List.{List, [], _∷_, _++_}
+use mathlib.Core.List.{List, [], _∷_}
 use mathlib.Core.Option.{Option, some, none}
 use mathlib.Core.Path.{_≡_, refl, subst}
 use native.Mathlib.Omega.{arith}
 use lib.Dec.{eqb}
 use lib.ListN.{length, getD, replicate}
-use Rattle.fields.specs.Format.{glyphOf, onDigit, digitsFrom, onField, field, both, fields, padded}
+use Rattle.fields.specs.Format.{glyphOf, onDigit, digitsFrom, onField, field, both, fields}
+use Rattle.lists.specs.Arrays.{padded}
 use Rattle.fields.specs.declared.Glyph.{Glyph}
 use Rattle.fields.specs.declared.Glyph.the-variants.{Blank, Digit, Other}
 use Rattle.fields.proofs.Simulation.{room, digit-low}
@@ -20,11 +21,6 @@ pub low-zeros : (n : ℕ) → Low (replicate n 0)
 low-zeros zero i = omega arith
 low-zeros (suc n) zero = omega arith
 low-zeros (suc n) (suc i) = low-zeros n i
-
-pub low-more : (fs : List ℕ) (n : ℕ) → Low fs → Low (fs ++ replicate n 0)
-low-more [] n l i = low-zeros n i
-low-more (v ∷ fs) n l zero = l zero
-low-more (v ∷ fs) n l (suc i) = low-more fs n (λ k. l (suc k)) i
 
 pub low-cons : (v : ℕ) (fs : List ℕ) → v < 1000000 → Low fs → Low (v ∷ fs)
 low-cons v fs h l zero = h
@@ -89,6 +85,12 @@ fields-length n l fs e = numbers n l fs e .0
 pub fields-low : (n : ℕ) (l fs : List ℕ) → fields n l ≡ some fs → Low fs
 fields-low n l fs e = numbers n l fs e .1
 
+pub padded-low : (n : ℕ) (fs : List ℕ) → Low fs → Low (padded n fs)
+unfolding padded
+padded-low zero fs h = λ i. omega arith
+padded-low (suc n) [] h = low-cons 0 (padded n []) (omega arith) (padded-low n [] h)
+padded-low (suc n) (x ∷ xs) h = low-cons x (padded n xs) (h 0) (padded-low n xs (λ i. h (suc i)))
+
 -- and so are those of its row
-pub row-low : (l fs : List ℕ) → fields 6 l ≡ some fs → Low (padded fs)
-row-low l fs e = low-more fs (6 - length fs) (fields-low 6 l fs e)
+pub row-low : (l fs : List ℕ) → fields 6 l ≡ some fs → Low (padded 6 fs)
+row-low l fs e = padded-low 6 fs (fields-low 6 l fs e)

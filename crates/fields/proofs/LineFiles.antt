@@ -16,7 +16,8 @@ use mathlib.Core.Option.{Option, some, none}
 use Rattle.refusals.specs.Judged.{Judged, refusal}
 use Rattle.refusals.specs.Judged.Judged.{accepted, refused}
 use Rattle.refusals.specs.declared.Refusal.{Refusal}
-use Rattle.fields.specs.Format.{fields, padded, onto, pieces}
+use Rattle.fields.specs.Format.{fields, onto, pieces}
+use Rattle.lists.specs.Arrays.{padded}
 use Rattle.fields.specs.Scan.{blank, scan, scans, closed, lineOf}
 use Rattle.fields.specs.LineFiles.{Rules, rowOf, judgeLine, judged, readLines, readFile}
 use Rattle.fields.specs.Machine.{between, ends, onByte, onEnd, verdict, judgeRead, Reading, ended, fed, run, ending}
@@ -192,7 +193,7 @@ module _ {S : Type 0} (r : Rules S) where
 
     -- what every line that is accepted keeps, with the number of bytes so far, holds at the end of a file that is accepted
     module _ (limit : ℕ) (Q : ℕ → S → Type 0)
-        (step : (m : ℕ) (s : S) (fs : List ℕ) → Low (padded fs) → r .judge s (length fs) (padded fs) ≡ 0 → m + (6 * length fs + 1) ≤ limit → Q m s → Q (m + (6 * length fs + 1)) (r .accept s (padded fs)))
+        (step : (m : ℕ) (s : S) (fs : List ℕ) → Low (padded 6 fs) → r .judge s (length fs) (padded 6 fs) ≡ 0 → m + (6 * length fs + 1) ≤ limit → Q m s → Q (m + (6 * length fs + 1)) (r .accept s (padded 6 fs)))
         (u : S) where
       abbrev Kept : Type 0
       Kept = (m : ℕ) × Q m u × (r .complete u ≡ true)
@@ -209,14 +210,14 @@ module _ {S : Type 0} (r : Rules S) where
           by : (o : Option (List ℕ)) → fields 6 l ≡ o → judged file (n + 1) (judgeLine (r .judge s) o) (readLines r file (n + 1) (r .accept s (rowOf o)) x ls) ≡ accepted u
               → ((k : ℕ) (t : S) → Q k t → k + bytesOf x ls ≤ limit → readLines r file (n + 1) t x ls ≡ accepted u → Kept) → Kept
           by none z e rec = not-accepted _ u e
-          by (some fs) z e rec = go (eqb (r .judge s (length fs) (padded fs)) 0) refl e
+          by (some fs) z e rec = go (eqb (r .judge s (length fs) (padded 6 fs)) 0) refl e
             where
-              go : (k : Bool) → eqb (r .judge s (length fs) (padded fs)) 0 ≡ k
-                  → cond k (readLines r file (n + 1) (r .accept s (padded fs)) x ls) (refused (refusal (r .judge s (length fs) (padded fs)) file (n + 1))) ≡ accepted u → Kept
+              go : (k : Bool) → eqb (r .judge s (length fs) (padded 6 fs)) 0 ≡ k
+                  → cond k (readLines r file (n + 1) (r .accept s (padded 6 fs)) x ls) (refused (refusal (r .judge s (length fs) (padded 6 fs)) file (n + 1))) ≡ accepted u → Kept
               go false j e = not-accepted _ u e
               go true j e =
                   let w : length l ≡ 6 * length fs = fields-length 6 l fs z in
-                  rec (m + (6 * length fs + 1)) (r .accept s (padded fs)) (step m s fs (row-low l fs z) (eqb-true _ _ j) (omega arith) q) (omega arith) e
+                  rec (m + (6 * length fs + 1)) (r .accept s (padded 6 fs)) (step m s fs (row-low l fs z) (eqb-true _ _ j) (omega arith) q) (omega arith) e
 
       pub file-keeps : (s : S) (bytes : List ℕ) → Q 0 s → readFile r file limit s bytes ≡ accepted u → Kept
       unfolding readFile
@@ -234,7 +235,7 @@ module _ {S : Type 0} (r : Rules S) where
 
       line-number : (s : S) (o : Option (List ℕ)) → P (judgeLine (r .judge s) o)
       line-number s none = two
-      line-number s (some fs) = each s (length fs) (padded fs)
+      line-number s (some fs) = each s (length fs) (padded 6 fs)
 
       lines-numbers : (ls : List (List ℕ)) (n : ℕ) (s : S) (l : List ℕ) → Numbered P (readLines r file n s l ls)
       lines-numbers [] n s [] = either (r .complete s) (accepted s) _ tt two

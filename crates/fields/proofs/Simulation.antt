@@ -6,13 +6,13 @@ use mathlib.Core.Logic.{_⊎_, inl, inr}
 use mathlib.Core.List.{List, [], _∷_, _++_, append-assoc, append-nil}
 use mathlib.Core.Bool.{Bool, true, false, cond}
 use mathlib.Core.Option.{Option, some, none}
-use lib.ListN.{length, set, replicate, length-append}
-use lib.Seq.{set-append-seam}
+use lib.ListN.{length, set, length-append}
 use lib.Dec.{leb, eqb}
 use borrow.Author.Tests.{lt-ltb, le-ltb, le-leb, lt-leb, ne-eqb, leb-true}
 use native.Mathlib.Omega.{arith}
 use native.Mathlib.Nat.{zero-add}
-use Rattle.fields.specs.Format.{glyphOf, onDigit, digitsFrom, onField, field, both, fields, padded}
+use Rattle.fields.specs.Format.{glyphOf, onDigit, digitsFrom, onField, field, both, fields}
+use Rattle.lists.specs.Arrays.{padded}
 use Rattle.fields.specs.Scan.{blank, spoilt, pushed, digit, on, closed, scans, numbers, lineOf}
 use Rattle.fields.specs.declared.Glyph.{Glyph}
 use Rattle.fields.specs.declared.Glyph.the-variants.{Blank, Digit, Other}
@@ -20,7 +20,7 @@ use Rattle.fields.specs.declared.Line.{Line}
 
 -- in the middle of a field, after the fields fs
 abbrev mid : List ℕ → ℕ → Bool → Bool → ℕ → Line
-mid fs n s z v = record { good = true; count = length fs; fields = padded fs; left = n; started = s; zero = z; value = v }
+mid fs n s z v = record { good = true; count = length fs; fields = padded 6 fs; left = n; started = s; zero = z; value = v }
 
 abbrev done : List ℕ → Option ℕ → Line
 done fs none = spoilt
@@ -39,19 +39,16 @@ spoilt-run : (l : List ℕ) → scans spoilt l ≡ spoilt
 spoilt-run [] = refl
 spoilt-run (b ∷ l) = spoilt-run l
 
-padded-push : (fs : List ℕ) (v : ℕ) → length fs < 6 → set (padded fs) (length fs) v ≡ padded (fs ++ (v ∷ []))
-padded-push fs v h =
-    let e : 6 - length fs ≡ suc (5 - length fs) = omega arith in
-    let k : 6 - length (fs ++ (v ∷ [])) ≡ 5 - length fs = simp length-append (omega arith) in
-    ap (λ (n : ℕ). set (fs ++ replicate n 0) (length fs) v) e
-    ∙ set-append-seam fs 0 (replicate (5 - length fs) 0) v
-    ∙ sym (append-assoc fs (v ∷ []) (replicate (5 - length fs) 0))
-    ∙ ap (λ (n : ℕ). fs ++ (v ∷ []) ++ replicate n 0) (sym k)
+padded-push : (n : ℕ) (fs : List ℕ) (v : ℕ) → length fs < n → set (padded n fs) (length fs) v ≡ padded n (fs ++ (v ∷ []))
+unfolding padded
+padded-push zero fs v h = absurd (omega arith)
+padded-push (suc n) [] v h = refl
+padded-push (suc n) (x ∷ xs) v h = ap (λ (l : List ℕ). x ∷ l) (padded-push n xs v (omega arith))
 
 pushed-is : (fs : List ℕ) (n : ℕ) (s z : Bool) (u v : ℕ) → length fs < 6 → pushed (mid fs n s z u) v ≡ numbers (fs ++ (v ∷ []))
 pushed-is fs n s z u v h =
     let c : length fs + 1 ≡ length (fs ++ (v ∷ [])) = sym (length-append fs (v ∷ [])) in
-    let f : set (padded fs) (length fs) v ≡ padded (fs ++ (v ∷ [])) = padded-push fs v h in
+    let f : set (padded 6 fs) (length fs) v ≡ padded 6 (fs ++ (v ∷ [])) = padded-push 6 fs v h in
     λ i. record { good = true; count = c i; fields = f i; left = 6; started = false; zero = false; value = 0 }
 
 low : (p q r : Bool) (b d : ℕ) → leb b 57 ≡ r → cond p Blank (cond q (cond r (Digit (b - 48)) Other) Other) ≡ Digit d → d ≤ 9
@@ -190,4 +187,5 @@ after-none (some gs) = refl
 
 -- what the machine has read of a whole line is what the format says of it
 pub line-run : (l : List ℕ) → closed (scans blank l) ≡ lineOf (fields 6 l)
+unfolding padded
 line-run l = fields-run 6 [] l (omega arith) ∙ ap lineOf (after-none (fields 6 l))

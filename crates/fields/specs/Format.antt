@@ -1,7 +1,6 @@
 -- The text of a file: lines that end with byte 10, of decimal numbers in fields of six columns. This is what a reader believes.
 use Prim.Native.Nat.{ℕ, zero, suc, _+_, _*_, _-_}
-use mathlib.Core.List.{List, [], _∷_, _++_}
-use lib.ListN.{length, replicate}
+use mathlib.Core.List.{List, [], _∷_}
 use mathlib.Core.Bool.{Bool, true, false, cond}
 use mathlib.Core.Option.{Option, some, none}
 use lib.Dec.{leb, eqb}
@@ -48,10 +47,6 @@ fields (suc n) (a ∷ b ∷ c ∷ []) = none
 fields (suc n) (a ∷ b ∷ c ∷ d ∷ []) = none
 fields (suc n) (a ∷ b ∷ c ∷ d ∷ e ∷ []) = none
 fields (suc n) (a ∷ b ∷ c ∷ d ∷ e ∷ f ∷ l) = both (field (a ∷ b ∷ c ∷ d ∷ e ∷ f ∷ [])) (fields n l)
-
--- the six numbers of a row: those of a line, then zeros
-abbrev pub padded : List ℕ → List ℕ
-padded fs = fs ++ replicate (6 - length fs) 0
 
 -- a byte before these pieces of a file: a byte 10 begins a new one
 abbrev pub onto : Bool → ℕ → List ℕ × List (List ℕ) → List ℕ × List (List ℕ)

@@ -8,7 +8,8 @@ use lib.Dec.{ltb, eqb}
 use lib.ListN.{length}
 use Rattle.refusals.specs.Judged.{Judged, refusal}
 use Rattle.refusals.specs.Judged.Judged.{accepted, refused}
-use Rattle.fields.specs.Format.{fields, padded, pieces}
+use Rattle.fields.specs.Format.{fields, pieces}
+use Rattle.lists.specs.Arrays.{padded}
 
 -- the rules of a file from whose lines an S is read: the refusal, or 0, of a line of so many fields whose numbers are this row; what is read after a
 -- line that is accepted; whether the file may end
@@ -19,13 +20,13 @@ pub record Rules (S : Type 0) : Type 0 where
 
 -- the row of a line
 abbrev pub rowOf : Option (List ℕ) → List ℕ
-rowOf none = padded []
-rowOf (some fs) = padded fs
+rowOf none = padded 6 []
+rowOf (some fs) = padded 6 fs
 
 -- the refusal of what stands on a line, or 0: layout (2) before the rules
 abbrev pub judgeLine : (ℕ → List ℕ → ℕ) → Option (List ℕ) → ℕ
 judgeLine judge none = 2
-judgeLine judge (some fs) = judge (length fs) (padded fs)
+judgeLine judge (some fs) = judge (length fs) (padded 6 fs)
 
 -- what follows line n, which has the refusal x, or 0
 abbrev pub judged : {S : Type 0} → (file n x : ℕ) → Judged S → Judged S

@@ -10,7 +10,7 @@ use lib.Dec.{T, leb, eqb, leb→le, le→leb, eqb→eq}
 use lib.Ieee.Fits.{and-i, and-l, and-r}
 use lib.ListN.{length, getD, length-replicate}
 use Rattle.refusals.specs.Judged.Judged.{accepted}
-use Rattle.fields.specs.Format.{padded}
+use Rattle.lists.specs.Arrays.{padded}
 use Rattle.fields.proofs.Digits.{Low}
 use Rattle.fields.proofs.LineFiles.{file-keeps}
 use Rattle.automata.specs.Automaton.{Automaton}
@@ -98,13 +98,13 @@ module _ (a : Automaton) where
     low : (i : ℕ) → getD (q .form) i 0 ≤ bound
     fits : T (fitsRows a 0 (rowsOf (q .form) (q .count)))
 
-  after-row : (m : ℕ) (q : Rows) (fs : List ℕ) → Low (padded fs) → judgeFields countsOf (q .count) (length fs) (padded fs) ≡ 0 → m + (6 * length fs + 1) ≤ 608 → After m q
-      → After (m + (6 * length fs + 1)) (questionRules countsOf .accept q (padded fs))
+  after-row : (m : ℕ) (q : Rows) (fs : List ℕ) → Low (padded 6 fs) → judgeFields countsOf (q .count) (length fs) (padded 6 fs) ≡ 0 → m + (6 * length fs + 1) ≤ 608 → After m q
+      → After (m + (6 * length fs + 1)) (questionRules countsOf .accept q (padded 6 fs))
   unfolding judgeFields
   after-row m q fs l e h s =
       let n = q .count in
       let t = q .form in
-      let r : Row = rowIn (padded fs) in
+      let r : Row = rowIn (padded 6 fs) in
       let g = three-fields (eqb (length fs) 3) (length fs) (judgeRow countsOf n r) refl e in
       let j : judgeRow countsOf n r ≡ 0 = g .1 in
       let k : HasRow t n = has-row t n (s .size) (omega (arith, s .used, g .0)) in

@@ -10,7 +10,7 @@ use lib.Dec.{leb, eqb}
 use lib.ListN.{length}
 use Rattle.refusals.specs.Judged.{Judged, _then_}
 use Rattle.refusals.specs.Judged.Judged.{accepted, refused}
-use Rattle.fields.specs.Format.{padded}
+use Rattle.lists.specs.Arrays.{padded}
 use Rattle.fields.specs.LineFiles.{readFile}
 use Rattle.fields.proofs.Digits.{Low, low-zeros}
 use Rattle.fields.proofs.LineFiles.{file-keeps}
@@ -36,7 +36,7 @@ module _ (Q : Progress → List ℕ → Type 0) (step : (p : Progress) (f t : Li
       by (accepted x) z e =
           let same : x .form ≡ u = cc in
           let k = file-keeps tableRules file limit (λ m y. Q (y .progress) (y .form))
-          (λ m y fs l j w q. step (y .progress) (padded fs) (y .form) l (stands (y .progress) (length fs) (padded fs) j) q) x begun s h z in
+          (λ m y fs l j w q. step (y .progress) (padded 6 fs) (y .form) l (stands (y .progress) (length fs) (padded 6 fs) j) q) x begun s h z in
           (x .progress, subst (Q (x .progress)) same (k .1), k .2)
 
 pub completed : (p : Progress) → complete p ≡ true → (4 ≤ p .stage) × (p .transitions ≤ p .transition)

@@ -10,7 +10,7 @@ use native.Mathlib.Decide.{ℕ-discrete}
 use native.Mathlib.Omega.{arith}
 use lib.Dec.{eqb}
 use lib.ListN.{length, take}
-use Rattle.fields.specs.Format.{padded}
+use Rattle.lists.specs.Arrays.{padded}
 use Rattle.forms.specs.TableForm.{rowCount, formLength, cell, put, countsRow, constantRows, actionRows, arityRow, startRow, startingRows, transitionRow, guardRows, assignmentRows, registerRow, transitionSize}
 use Rattle.forms.specs.FormAutomaton.{present}
 use Rattle.reader.specs.declared.Progress.{Progress}
@@ -179,7 +179,8 @@ blank-filled p u m =
       marks = λ x. subst (MarkedBy p x) (sym (cell-without rowCount x 0)) (m x);
     }
 
-take-six : (vs : List ℕ) → length vs ≤ 6 → take (length vs) (six (padded vs)) ≡ vs
+take-six : (vs : List ℕ) → length vs ≤ 6 → take (length vs) (six (padded 6 vs)) ≡ vs
+unfolding padded
 take-six [] h = refl
 take-six (a ∷ []) h = refl
 take-six (a ∷ b ∷ []) h = refl
@@ -239,11 +240,11 @@ marks-step p t f w st c x m = by-cases (ℕ-discrete x (home p f)) here other
     other : x ≢ home p f → MarkedBy (further p f t) x (cell (placed p f t) x 0)
     other y = subst (λ r. MarkedBy (further p f t) x (at r 0)) (sym (other-row t (home p f) f x y)) (marked-old p f a x (cell t x 0) y st m)
 
-filled-step : (p : Progress) (t : List ℕ) (done : List (List ℕ)) (vs : List ℕ) → Plain vs → judgeLine p (length vs) (padded vs) ≡ 0 → Sound p t → Filled p t done
-    → Filled (further p (padded vs) t) (placed p (padded vs) t) (done ++ (vs ∷ []))
+filled-step : (p : Progress) (t : List ℕ) (done : List (List ℕ)) (vs : List ℕ) → Plain vs → judgeLine p (length vs) (padded 6 vs) ≡ 0 → Sound p t → Filled p t done
+    → Filled (further p (padded 6 vs) t) (placed p (padded 6 vs) t) (done ++ (vs ∷ []))
 unfolding kindAt
 filled-step p t done vs l z s g =
-    let f : List ℕ = padded vs in
+    let f : List ℕ = padded 6 vs in
     let st : Stands p f = stands p (length vs) f z in
     let pass = line-passed p (length vs) f z .0 in
     let b = used-step p f (cell t (arityRow (at f 2)) 1) (g .used) (s .counted) (rises p (length vs) f pass) (g .bounds) st in
@@ -268,9 +269,9 @@ module _ (Q : Progress → List ℕ → Type 0) (step : (p : Progress) (f t : Li
   lines-filled rs x u taken h =
       taken-keeps tableRules Standing
       (λ done y vs l z q.
-      let st : Stands (y .progress) (padded vs) = stands (y .progress) (length vs) (padded vs) z in (
-        sound-step (y .progress) (padded vs) (y .form) (q .0) (plain-row vs l) st,
-        step (y .progress) (padded vs) (y .form) (q .0 .size) st (q .1),
+      let st : Stands (y .progress) (padded 6 vs) = stands (y .progress) (length vs) (padded 6 vs) z in (
+        sound-step (y .progress) (padded 6 vs) (y .form) (q .0) (plain-row vs l) st,
+        step (y .progress) (padded 6 vs) (y .form) (q .0 .size) st (q .1),
         filled-step (y .progress) (y .form) done vs l z (q .0) (q .2),
       ))
       rs [] x u taken h

@@ -18,7 +18,7 @@ use Rattle.automata.specs.Automaton.{Condition, Assignment, Transition, Automat
 use Rattle.automata.specs.Runs.{Target}
 use Rattle.automata.specs.WellFormed.{inside, fitsCondition, fitsAssignment, constantCount, fitsTransition, fitsConditions, wellFormed, limited}
 use Rattle.automata.proofs.Equivariance.{inside→}
-use Rattle.fields.specs.Format.{padded}
+use Rattle.lists.specs.Arrays.{padded}
 use Rattle.forms.specs.TableForm.{rowCount, formLength, cell, put, actionRows, arityRow, startRow, startingRows, transitionRow, assignmentRows}
 use Rattle.forms.proofs.Forms.{Limits, limits}
 use Rattle.reader.specs.declared.Progress.{Progress}
@@ -33,7 +33,7 @@ use Rattle.writing.proofs.Accepting.{accepts, in-order, condition-range
 abbrev pub Takes : Progress → List ℕ → List (List ℕ) → Type 0
 Takes p t rs = (u : Read) × Taken tableRules rs (record { progress = p; form = t }) u
 
-take-line : (p : Progress) (t vs : List ℕ) (rs : List (List ℕ)) → Plain vs → judgeLine p (length vs) (padded vs) ≡ 0 → Takes (further p (padded vs) t) (placed p (padded vs) t) rs → Takes p t (vs ∷ rs)
+take-line : (p : Progress) (t vs : List ℕ) (rs : List (List ℕ)) → Plain vs → judgeLine p (length vs) (padded 6 vs) ≡ 0 → Takes (further p (padded 6 vs) t) (placed p (padded 6 vs) t) rs → Takes p t (vs ∷ rs)
 take-line p t vs rs h j (u, taken) = (u, (h, j, taken))
 
 take-end : (p : Progress) (t : List ℕ) → 4 ≤ p .stage → p .transitions ≤ p .transition → Takes p t []
@@ -91,10 +91,10 @@ module _ (r c l n : ℕ) (ns : List ℕ) where
 
   constants-taken : (cs : List ℕ) (p : Progress) (t : List ℕ) (ls : List (List ℕ)) → Early p t → p .ids + length cs ≡ c → T (rising cs) → (p .stage ≡ 2 → T (rising (p .newest ∷ cs)))
       → T (allOf (λ v. ltb v 1000000) cs) → ((q : Progress) (v : List ℕ) → Early q v → q .ids ≡ c → Takes q v ls) → Takes p t (map (λ v. 2 ∷ v ∷ []) cs ++ ls)
-  unfolding advance kindAt inRange
+  unfolding advance kindAt inRange padded
   constants-taken [] p t ls s e a b d next = next p t s (omega arith)
   constants-taken (v ∷ cs) p t ls s e a b d next =
-      let f : List ℕ = padded (2 ∷ v ∷ []) in
+      let f : List ℕ = padded 6 (2 ∷ v ∷ []) in
       take-line p t (2 ∷ v ∷ []) (map (λ v. 2 ∷ v ∷ []) cs ++ ls)
       (plain2 2 v (omega arith) (ltb→lt v 1000000 (and-l (ltb v 1000000) (allOf (λ v. ltb v 1000000) cs) d)))
       (accepts p 2 f refl (s .from1) (s .to2) (lt-ltb (p .ids) (p .constants) (omega (arith, s .known .same2))) refl refl
@@ -118,7 +118,7 @@ module _ (r c l n : ℕ) (ns : List ℕ) where
   arities-taken : Small → (ms : List ℕ) (p : Progress) (t : List ℕ) (ls : List (List ℕ)) (i : ℕ) → Acting p t i → i + length ms ≡ length ns → T (allOf (λ m. leb m 3) ms)
       → ((j : ℕ) → getD ms j 0 ≡ getD ns (i + j) 0)
       → ((q : Progress) (v : List ℕ) → Acting q v (length ns) → Takes q v ls) → Takes p t (map (λ v. 3 ∷ v ∷ []) ms ++ ls)
-  unfolding advance kindAt inRange
+  unfolding advance kindAt inRange padded
   arities-taken z [] p t ls i s e h g next = let d : i ≡ length ns = omega arith in next p t (subst (Acting p t) d s)
   arities-taken z (m ∷ ms) p t ls i s e h g next =
       let few : m ≤ 3 = leb→le m 3 (and-l (leb m 3) (allOf (λ m. leb m 3) ms) h) in
@@ -142,7 +142,7 @@ module _ (r c l n : ℕ) (ns : List ℕ) where
       (λ j. let d : i + suc j ≡ suc i + j = omega arith in g (suc j) ∙ ap (λ x. getD ns x 0) d) next)
     where
       f : List ℕ
-      f = padded (3 ∷ m ∷ [])
+      f = padded 6 (3 ∷ m ∷ [])
 
       new : (j : ℕ) → j ≡ i → cell (put t (actionRows + p .acts) f) (actionRows + j) 1 ≡ getD ns j 0
       new j y =
@@ -174,7 +174,7 @@ module _ (r c l n : ℕ) (ns : List ℕ) where
 
     conditions-taken : (gs : List Condition) (p : Progress) (t : List ℕ) (ls : List (List ℕ)) (q tr : ℕ) → q ≤ 3 → Amid q tr p t → p .stage ≡ s → p .conds + length gs ≤ 8 → T (allOf (fitsCondition c r q) gs)
         → ((p′ : Progress) (v : List ℕ) → Amid q tr p′ v → p′ .stage ≡ s → Takes p′ v ls) → Takes p t (map (conditionLine k) gs ++ ls)
-    unfolding advance kindAt
+    unfolding advance kindAt padded
     conditions-taken [] p t ls q tr w a e d h next = next p t a e
     conditions-taken (g ∷ gs) p t ls q tr w a e d h next =
         let fits : T (fitsCondition c r q g) = and-l (fitsCondition c r q g) (allOf (fitsCondition c r q) gs) h in
@@ -194,9 +194,9 @@ module _ (r c l n : ℕ) (ns : List ℕ) where
   start-taken : Small → (x : ℕ) (gs : List Condition) (p : Progress) (t : List ℕ) (ls : List (List ℕ)) → KnownBy p → Stored (length ns) t → Untouched p → p .stage ≡ 3 → p .acts ≡ length ns
       → T (inside l x) → length gs ≤ 8 → T (allOf (fitsCondition c r 0) gs)
       → ((q : Progress) (v : List ℕ) → Amid 0 0 q v → q .stage ≡ 4 → Takes q v ls) → Takes p t ((4 ∷ x ∷ []) ∷ (map (conditionLine 5) gs ++ ls))
-  unfolding advance kindAt inRange
+  unfolding advance kindAt inRange padded
   start-taken z x gs p t ls k s o a b h m d next =
-      let f : List ℕ = padded (4 ∷ x ∷ []) in
+      let f : List ℕ = padded 6 (4 ∷ x ∷ []) in
       take-line p t (4 ∷ x ∷ []) (map (conditionLine 5) gs ++ ls)
       (plain2 4 x (omega arith) (omega (arith, inside→ l x h, z .locations)))
       (accepts p 2 f refl (omega arith) (omega arith) (le-leb (p .actions) (p .acts) (omega (arith, k .same4))) refl (rw (k .same3) (T-true (inside l x) h)) refl)
@@ -209,10 +209,10 @@ module _ (r c l n : ℕ) (ns : List ℕ) where
   assigns-taken : Small → (ss : List Assignment) (p : Progress) (t : List ℕ) (ls : List (List ℕ)) (q tr : ℕ) → q ≤ 3 → Amid q tr p t → 5 ≤ p .stage → p .stage ≤ 6 → T (rising (map (λ s. s .register) ss))
       → (p .stage ≡ 6 → T (rising (p .newest ∷ map (λ s. s .register) ss))) → T (allOf (fitsAssignment c r q) ss)
       → ((p′ : Progress) (v : List ℕ) → Amid q tr p′ v → 5 ≤ p′ .stage → p′ .stage ≤ 6 → Takes p′ v ls) → Takes p t (map assignmentLine ss ++ ls)
-  unfolding advance kindAt
+  unfolding advance kindAt padded
   assigns-taken z [] p t ls q tr w a d e b o h next = next p t a d e
   assigns-taken z (x ∷ xs) p t ls q tr w a d e b o h next =
-      let f : List ℕ = padded (assignmentLine x) in
+      let f : List ℕ = padded 6 (assignmentLine x) in
       let regs : List ℕ = map (λ s. s .register) xs in
       let fits : T (fitsAssignment c r q x) = and-l (fitsAssignment c r q x) (allOf (fitsAssignment c r q) xs) h in
       take-line p t (assignmentLine x) (map assignmentLine xs ++ ls)
@@ -240,7 +240,7 @@ module _ (a : Automaton) (lim : T (limited a)) where
   transitions-taken : (ts : List Transition) (p : Progress) (t : List ℕ) → KnownBy (a .registers) (constantCount a) (a .locations) (length (a .transitions)) (a .arities) p
       → Stored (a .registers) (constantCount a) (a .locations) (length (a .transitions)) (a .arities) (length (a .arities)) t → 4 ≤ p .stage → p .stage ≤ 6
       → p .transition + length ts ≡ length (a .transitions) → T (allOf (fitsTransition a) ts) → T (allOf (λ x. leb (length (x .guard)) 8) ts) → Takes p t (transitionsLines ts)
-  unfolding advance kindAt inRange
+  unfolding advance kindAt inRange padded
   transitions-taken [] p t k s d e g h few = take-end p t d (omega (arith, k .same5))
   transitions-taken (x ∷ xs) p t k s d e g h few =
       let r : ℕ = a .registers in
@@ -248,7 +248,7 @@ module _ (a : Automaton) (lim : T (limited a)) where
       let l : ℕ = a .locations in
       let n : ℕ = length (a .transitions) in
       let ns : List ℕ = a .arities in
-      let f : List ℕ = padded (6 ∷ x .from ∷ x .action ∷ x .to ∷ []) in
+      let f : List ℕ = padded 6 (6 ∷ x .from ∷ x .action ∷ x .to ∷ []) in
       let fits : T (fitsTransition a x) = and-l (fitsTransition a x) (allOf (fitsTransition a) xs) h in
       let from : T (inside (a .locations) (x .from)) = search (and-l, and-r) in
       let action : T (inside (length (a .arities)) (x .action)) = search (and-l, and-r) in
@@ -277,14 +277,14 @@ module _ (a : Automaton) (lim : T (limited a)) where
 
   -- the lines of a well-formed automaton within the limits, with constants of six digits
   pub table-taken : T (wellFormed a) → T (sixDigits a) → Takes atStart blankForm (tableLines a)
-  unfolding advance kindAt inRange
+  unfolding advance kindAt inRange padded
   table-taken wf six =
       let r : ℕ = a .registers in
       let c : ℕ = constantCount a in
       let l : ℕ = a .locations in
       let n : ℕ = length (a .transitions) in
       let ns : List ℕ = a .arities in
-      let f : List ℕ = padded (headLine a) in
+      let f : List ℕ = padded 6 (headLine a) in
       let rise : T (rising (a .constants)) = search (and-l, and-r) in
       let start : T (inside (a .locations) (a .start)) = search (and-l, and-r) in
       let starting : T (fitsConditions a (a .starting)) = search (and-l, and-r) in
@@ -331,6 +331,7 @@ module _ (a : Automaton) (lim : T (limited a)) where
 -- the lines of a target that fits a table of these counts
 pub target-taken : (r c l : ℕ) (g : Target) → r ≤ 5 → c ≤ 2 → l ≤ 16 → T (inside l (g .location)) → T (allOf (fitsCondition c r 0) (g .conditions)) → length (g .conditions) ≤ 8
     → Takes (beforeTarget r c l) blankForm (targetLines g)
+unfolding padded
 target-taken r c l g x y z h k m =
     subst (λ (v : List (List ℕ)). Takes (beforeTarget r c l) blankForm ((4 ∷ g .location ∷ []) ∷ v)) (append-nil (map (conditionLine 5) (g .conditions)))
     (start-taken r c l 0 [] (record { registers = x; constants = y; locations = z; actions = omega arith }) (g .location) (g .conditions) (beforeTarget r c l) blankForm []

@@ -11,9 +11,10 @@ use lib.Dec.{ltb, eqb}
 use lib.ListN.{length, length-append}
 use Rattle.refusals.specs.Judged.{refusal}
 use Rattle.refusals.specs.Judged.Judged.{accepted, refused}
-use Rattle.fields.specs.Format.{fields, padded, pieces}
+use Rattle.fields.specs.Format.{fields, pieces}
+use Rattle.lists.specs.Arrays.{padded}
 use Rattle.fields.specs.LineFiles.{Rules, rowOf, judgeLine, judged, readLines, readFile}
-use Rattle.fields.proofs.Digits.{Low, low-more, fields-low}
+use Rattle.fields.proofs.Digits.{Low, padded-low, fields-low}
 use Rattle.fields.proofs.LineFiles.{not-accepted}
 use Rattle.columns.specs.Columns.{columns, fileBytes}
 use Rattle.columns.proofs.Columns.{columns-length}
@@ -24,14 +25,14 @@ pub record Plain (vs : List ℕ) : Type 0 where
   pub few : length vs ≤ 6
   pub low : Low vs
 
-pub plain-row : (vs : List ℕ) → Plain vs → Low (padded vs)
-plain-row vs h = low-more vs (6 - length vs) (h .low)
+pub plain-row : (vs : List ℕ) → Plain vs → Low (padded 6 vs)
+plain-row vs h = padded-low 6 vs (h .low)
 
 module _ {S : Type 0} (r : Rules S) where
   -- the lines are accepted one after the other, the first at s, and u is read
   abbrev pub Taken : List (List ℕ) → S → S → Type 0
   Taken [] s u = (s ≡ u) × (r .complete s ≡ true)
-  Taken (vs ∷ rs) s u = Plain vs × (r .judge s (length vs) (padded vs) ≡ 0) × Taken rs (r .accept s (padded vs)) u
+  Taken (vs ∷ rs) s u = Plain vs × (r .judge s (length vs) (padded 6 vs) ≡ 0) × Taken rs (r .accept s (padded 6 vs)) u
 
   module _ (file : ℕ) (u : S) where
     -- What is read is written
@@ -51,15 +52,15 @@ module _ {S : Type 0} (r : Rules S) where
         by : (o : Option (List ℕ)) → fields 6 l ≡ o → judged file (n + 1) (judgeLine (r .judge s) o) (readLines r file (n + 1) (r .accept s (rowOf o)) m ls) ≡ accepted u
             → ((t : S) → readLines r file (n + 1) t m ls ≡ accepted u → Written t (joined m ls)) → Written s (l ++ (10 ∷ joined m ls))
         by none x e rec = not-accepted _ u e
-        by (some vs) x e rec = go (eqb (r .judge s (length vs) (padded vs)) 0) refl e
+        by (some vs) x e rec = go (eqb (r .judge s (length vs) (padded 6 vs)) 0) refl e
           where
-            go : (k : Bool) → eqb (r .judge s (length vs) (padded vs)) 0 ≡ k
-                → cond k (readLines r file (n + 1) (r .accept s (padded vs)) m ls) (refused (refusal (r .judge s (length vs) (padded vs)) file (n + 1))) ≡ accepted u
+            go : (k : Bool) → eqb (r .judge s (length vs) (padded 6 vs)) 0 ≡ k
+                → cond k (readLines r file (n + 1) (r .accept s (padded 6 vs)) m ls) (refused (refusal (r .judge s (length vs) (padded 6 vs)) file (n + 1))) ≡ accepted u
                 → Written s (l ++ (10 ∷ joined m ls))
             go false z e = not-accepted _ u e
             go true z e =
                 let (same, few) = columns-fields 6 l vs x in
-                let (rs, f, taken) = rec (r .accept s (padded vs)) e in
+                let (rs, f, taken) = rec (r .accept s (padded 6 vs)) e in
                 (vs ∷ rs, ap₂ (λ (x y : List ℕ). x ++ (10 ∷ y)) same f, (record { few = few; low = fields-low 6 l vs x }, eqb-true _ _ z, taken))
 
     pub file-written : (limit : ℕ) (s : S) (bytes : List ℕ) → readFile r file limit s bytes ≡ accepted u → (length bytes ≤ limit) × Written s bytes
@@ -82,8 +83,8 @@ module _ {S : Type 0} (r : Rules S) where
         let ls : List (List ℕ) = pieces (fileBytes rs) .1 in
         ap (λ (q : List ℕ × List (List ℕ)). readLines r file n s (q .0) (q .1)) (pieces-file vs rs)
         ∙ ap (λ (o : Option (List ℕ)). judged file (n + 1) (judgeLine (r .judge s) o) (readLines r file (n + 1) (r .accept s (rowOf o)) m ls)) (fields-columns 6 vs (h .few) (h .low))
-        ∙ ap (λ (x : ℕ). judged file (n + 1) x (readLines r file (n + 1) (r .accept s (padded vs)) m ls)) z
-        ∙ lines-read rs (n + 1) (r .accept s (padded vs)) taken
+        ∙ ap (λ (x : ℕ). judged file (n + 1) x (readLines r file (n + 1) (r .accept s (padded 6 vs)) m ls)) z
+        ∙ lines-read rs (n + 1) (r .accept s (padded 6 vs)) taken
 
     pub file-read : (limit : ℕ) (s : S) (rs : List (List ℕ)) → length (fileBytes rs) ≤ limit → Taken rs s u → readFile r file limit s (fileBytes rs) ≡ accepted u
     unfolding readFile
@@ -93,16 +94,16 @@ module _ {S : Type 0} (r : Rules S) where
 
   -- what every accepted line keeps, with the lines so far, holds at the end
   pub taken-keeps : (Q : List (List ℕ) → S → Type 0)
-      → ((done : List (List ℕ)) (s : S) (vs : List ℕ) → Plain vs → r .judge s (length vs) (padded vs) ≡ 0 → Q done s → Q (done ++ (vs ∷ [])) (r .accept s (padded vs)))
+      → ((done : List (List ℕ)) (s : S) (vs : List ℕ) → Plain vs → r .judge s (length vs) (padded 6 vs) ≡ 0 → Q done s → Q (done ++ (vs ∷ [])) (r .accept s (padded 6 vs)))
       → (rs done : List (List ℕ)) (s u : S) → Taken rs s u → Q done s → Q (done ++ rs) u × (r .complete u ≡ true)
   taken-keeps Q step [] done s u (same, z) q =
       (subst (λ l. Q l u) (sym (append-nil done)) (subst (Q done) same q), subst (λ (x : S). r .complete x ≡ true) same z)
   taken-keeps Q step (vs ∷ rs) done s u (h, z, taken) q =
       subst (λ l. Q l u × (r .complete u ≡ true)) (append-assoc done (vs ∷ []) rs)
-      (taken-keeps Q step rs (done ++ (vs ∷ [])) (r .accept s (padded vs)) u taken (step done s vs h z q))
+      (taken-keeps Q step rs (done ++ (vs ∷ [])) (r .accept s (padded 6 vs)) u taken (step done s vs h z q))
 
   -- a line has at most 37 bytes
   pub taken-short : (rs : List (List ℕ)) (s u : S) → Taken rs s u → length (fileBytes rs) ≤ 37 * length rs
   taken-short [] s u t = omega arith
   taken-short (vs ∷ rs) s u (h, z, t) =
-      omega (arith, taken-short rs (r .accept s (padded vs)) u t, h .few, length-append (columns 6 vs) (10 ∷ fileBytes rs), columns-length 6 vs)
+      omega (arith, taken-short rs (r .accept s (padded 6 vs)) u t, h .few, length-append (columns 6 vs) (10 ∷ fileBytes rs), columns-length 6 vs)

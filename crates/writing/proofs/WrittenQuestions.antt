@@ -9,7 +9,7 @@ use lib.Dec.{T, eqb, eqb→eq}
 use lib.Ieee.Fits.{and-l, and-r}
 use lib.ListN.{length, length-replicate, length-append}
 use Rattle.refusals.specs.Judged.Judged.{accepted}
-use Rattle.fields.specs.Format.{padded}
+use Rattle.lists.specs.Arrays.{padded}
 use Rattle.fields.proofs.Digits.{low-zeros, low-cons}
 use Rattle.graphs.proofs.Lists.{T-true}
 use Rattle.automata.specs.Automaton.{Automaton}
@@ -43,8 +43,8 @@ module _ (c : Counts) where
   unfolding judgeFields
   rows-lines [] q u taken = ([], refl)
   rows-lines (vs ∷ ls) q u (plain, z, taken) =
-      let (rs, e) = rows-lines ls (questionRules c .accept q (padded vs)) u taken in
-      by vs (three-fields (eqb (length vs) 3) (length vs) (judgeRow c (q .count) (rowIn (padded vs))) refl z .0) rs e
+      let (rs, e) = rows-lines ls (questionRules c .accept q (padded 6 vs)) u taken in
+      by vs (three-fields (eqb (length vs) 3) (length vs) (judgeRow c (q .count) (rowIn (padded 6 vs))) refl z .0) rs e
     where
       by : (vs : List ℕ) → length vs ≡ 3 → (rs : List Row) → ls ≡ questionLines rs → (rs : List Row) × (vs ∷ ls ≡ questionLines rs)
       by [] h rs e = absurd (omega arith)
@@ -55,6 +55,7 @@ module _ (c : Counts) where
 
   -- and stand in the form
   rows-stand : (rs : List Row) (q u : Rows) → 3 * (q .count + length rs) ≤ length (q .form) → Taken (questionRules c) (questionLines rs) q u → rowsOf (u .form) (u .count) ≡ rowsOf (q .form) (q .count) ++ rs
+  unfolding padded
   rows-stand [] q u h (same, z) = ap (λ x. rowsOf (x .form) (x .count)) (sym same) ∙ sym (append-nil (rowsOf (q .form) (q .count)))
   rows-stand (r ∷ rs) q u h (plain, z, taken) =
       rows-stand rs (record { form = put (q .form) (q .count) r; count = q .count + 1 }) u (omega (arith, put-length (q .form) (q .count) r)) taken
@@ -115,7 +116,7 @@ module _ (a : Automaton) where
         )
 
     rows-taken : (qs : List Row) (n : ℕ) (q : Rows) → q .count ≡ n → n + length qs ≤ 32 → 1 ≤ n + length qs → T (fitsRows a n qs) → (u : Rows) × Taken (questionRules countsOf) (questionLines qs) q u
-    unfolding judgeFields
+    unfolding judgeFields padded
     rows-taken [] n q e h k t = (q, (refl, lt-ltb 0 (q .count) (omega arith)))
     rows-taken (r ∷ qs) n q e h k t =
         let (plain, judged) = row-taken (q .count) r (omega arith) (rw e (and-l (fitsRow a n r) (fitsRows a (suc n) qs) t)) in
