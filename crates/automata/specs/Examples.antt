@@ -19,7 +19,7 @@ use Rattle.classes.specs.MatrixClasses.{classOfMatrix}
 use Rattle.automata.specs.Automaton.{Term, Condition, Assignment, Automaton}
 use Rattle.automata.specs.Automaton.Term.{register, parameter, constant}
 use Rattle.automata.specs.Runs.{State, Move, Target, Step, Shortest, Never, permitted, initial, isRun, final, hits}
-use Rattle.automata.specs.Questions.{Atom, Row, Holds, HoldsAtStarts, question}
+use Rattle.automata.specs.Questions.{Atom, row, Holds, HoldsAtStarts, question}
 use Rattle.automata.specs.Questions.Atom.{at, equal}
 use Rattle.automata.specs.WellFormed.{wellFormed, inside, fitsTarget}
 use Rattle.automata.specs.FormulaFits.{fitsFormula}
@@ -175,22 +175,19 @@ starred =
 
 -- For each kind of row that these do not touch, what holds at the sample's start and what does not
 
-abbrev pub asked : ℕ → ℕ → ℕ → Row
-asked kind first second = record { kind = kind; first = first; second = second }
-
 -- the kind of a row on the places p and q, and on p alone
 abbrev pub onPlaces : ℕ → ℕ → ℕ → Formula Atom
-onPlaces kind p q = question (asked 1 p 0 ∷ asked 1 q 0 ∷ asked kind 1 2 ∷ [])
+onPlaces kind p q = question (row 1 p 0 ∷ row 1 q 0 ∷ row kind 1 2 ∷ [])
 
 abbrev pub onPlace : ℕ → ℕ → Formula Atom
-onPlace kind p = question (asked 1 p 0 ∷ asked kind 1 0 ∷ [])
+onPlace kind p = question (row 1 p 0 ∷ row kind 1 0 ∷ [])
 
 abbrev pub ofKinds : List Claim
 ofKinds =
     -- 3: the translator is nobody; at every next moment the reviser is, and the translator is not
-    holds sample (question (asked 3 1 1 ∷ []))
-    ∷ holds sample (question (asked 3 2 1 ∷ asked 11 1 0 ∷ []))
-    ∷ fails sample (question (asked 3 1 1 ∷ asked 6 1 0 ∷ []))
+    holds sample (question (row 3 1 1 ∷ []))
+    ∷ holds sample (question (row 3 2 1 ∷ row 11 1 0 ∷ []))
+    ∷ fails sample (question (row 3 1 1 ∷ row 6 1 0 ∷ []))
     -- 5 and 4
     ∷ fails sample (onPlaces 5 1 2)
     ∷ holds sample (onPlace 4 2)
@@ -213,13 +210,13 @@ ofKinds =
     -- 11, AX: also where nothing can follow, as after two steps
     ∷ holds sample (onPlace 11 2)
     ∷ fails sample (onPlace 11 3)
-    ∷ holds sample (question (asked 1 1 0 ∷ asked 11 1 0 ∷ asked 11 2 0 ∷ asked 11 3 0 ∷ []))
+    ∷ holds sample (question (row 1 1 0 ∷ row 11 1 0 ∷ row 11 2 0 ∷ row 11 3 0 ∷ []))
     -- 12, EF: place 3; with no step place 1; never place 3 with equal registers
     ∷ holds sample (onPlace 12 3)
     ∷ holds sample (onPlace 12 1)
-    ∷ fails sample (question (asked 1 3 0 ∷ asked 2 1 2 ∷ asked 5 1 2 ∷ asked 12 3 0 ∷ []))
+    ∷ fails sample (question (row 1 3 0 ∷ row 2 1 2 ∷ row 5 1 2 ∷ row 12 3 0 ∷ []))
     -- 13, AG: never at place 3 with equal registers; not always at place 1
-    ∷ holds sample (question (asked 1 3 0 ∷ asked 2 1 2 ∷ asked 5 1 2 ∷ asked 4 3 0 ∷ asked 13 4 0 ∷ []))
+    ∷ holds sample (question (row 1 3 0 ∷ row 2 1 2 ∷ row 5 1 2 ∷ row 4 3 0 ∷ row 13 4 0 ∷ []))
     ∷ fails sample (onPlace 13 1)
     ∷ []
 

@@ -37,6 +37,9 @@ pub record Row : Type 0 where
   pub first : ℕ
   pub second : ℕ
 
+abbrev pub row : ℕ → ℕ → ℕ → Row
+row k a b = record { kind = k; first = a; second = b }
+
 -- what a field of a row names: a location (document 01's place), a register, a constant, an earlier row, or nothing
 pub data Use : Type 0 where
   locationNumber : Use

@@ -1,20 +1,20 @@
 -- The rows of a question in its flat form: what one row more changes, and each row by itself.
 -- Assumes nothing.
-use Prim.Native.Nat.{ℕ, zero, suc, _+_, _*_, _≤_, _<_}
+use Prim.Native.Nat.{ℕ, zero, suc, _+_, _*_, _<_}
 use mathlib.Core.List.{List, [], _∷_, _++_, map, map-append}
 use mathlib.Core.Logic.{_≢_}
 use mathlib.Core.Path.{_≡_, refl, sym, ap, _∙_, subst}
 use native.Mathlib.Omega.{arith}
 use lib.Dec.{T}
 use lib.Ieee.Fits.{and-l, and-r}
-use lib.ListN.{length, getD, replicate}
-use Rattle.lists.proofs.Arrays.{length-filled, filled-at, filled-kept, filled-each, zeros-at}
+use lib.ListN.{length, getD}
+use Rattle.lists.proofs.Arrays.{length-filled, filled-at, filled-kept}
 use Rattle.graphs.specs.Lists.{upFrom}
 use Rattle.graphs.proofs.Lists.{getD-map, upFrom-length, upFrom-getD, upFrom-append, upFrom-agree, upFrom-values}
 use Rattle.automata.specs.Automaton.{Automaton}
-use Rattle.automata.specs.Questions.{Row}
+use Rattle.automata.specs.Questions.{Row, row}
 use Rattle.automata.specs.WellFormed.{inside, fitsRow, fitsRows, fitsQuestion}
-use Rattle.forms.specs.QuestionForm.{questionLength, row, numbersOf, put, rowAt, rowsOf}
+use Rattle.forms.specs.QuestionForm.{questionLength, numbersOf, put, rowAt, rowsOf}
 
 -- The form
 
@@ -59,19 +59,6 @@ rows-more t n =
 pub rows-put : (t : List ℕ) (n : ℕ) (r : Row) → HasRow t n → rowsOf (put t n r) (n + 1) ≡ rowsOf t n ++ (r ∷ [])
 rows-put t n r h =
     rows-more (put t n r) n ∙ cc (upFrom-agree (rowAt (put t n r)) (rowAt t) 0 n (λ j k l. put-kept t n r j (omega arith)), put-at t n r h)
-
-pub put-low : (m : ℕ) (t : List ℕ) (n : ℕ) (r : Row) → r .kind ≤ m → r .first ≤ m → r .second ≤ m → ((j : ℕ) → getD t j 0 ≤ m) → (j : ℕ) → getD (put t n r) j 0 ≤ m
-unfolding put
-put-low m t n r a b c = filled-each (λ x. x ≤ m) t (3 * n) (λ i. getD (numbersOf r) i 0) 3 by
-  where
-    by : (i : ℕ) → i < 3 → getD (numbersOf r) i 0 ≤ m
-    by zero h = a
-    by (suc zero) h = b
-    by (suc (suc zero)) h = c
-    by (suc (suc (suc i))) h = absurd (omega arith)
-
-pub zeros-low : (m n j : ℕ) → getD (replicate n 0) j 0 ≤ m
-zeros-low m n j = omega (arith, zeros-at n j)
 
 -- The rows of a form, one by one
 

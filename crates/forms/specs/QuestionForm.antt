@@ -6,10 +6,7 @@ use mathlib.Core.List.{List, [], _∷_, map}
 use lib.ListN.{getD, replicate}
 use Rattle.lists.specs.Filling.{filled}
 use Rattle.graphs.specs.Lists.{upFrom}
-use Rattle.automata.specs.Questions.{Row}
-
-abbrev pub row : ℕ → ℕ → ℕ → Row
-row k a b = record { kind = k; first = a; second = b }
+use Rattle.automata.specs.Questions.{Row, row}
 
 -- a form's numbers
 abbrev pub questionLength : ℕ

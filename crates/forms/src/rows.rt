@@ -5,7 +5,8 @@ ghost use Prim.Native.Nat.{ℕ, _^_, _≤_, _<_};
 ghost use lib.ListN.{length, getD, set};
 ghost use Rattle.lists.specs.Filling.{filled};
 ghost use Rattle.forms.specs.TableForm.{cell, put};
-ghost use Rattle.forms.specs.QuestionForm.{row, put as putRow};
+ghost use Rattle.automata.specs.Questions.{row};
+ghost use Rattle.forms.specs.QuestionForm.{put as putRow};
 
 // The number in this row and column of a table's form.
 pub fn cell(form: &[u32], row: usize, column: usize) -> u32

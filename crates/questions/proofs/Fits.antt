@@ -1,4 +1,4 @@
--- What the form of an accepted question satisfies: the rows are a question to the table (`question-fits`), and the numbers are small (`question-form`).
+-- What the form of an accepted question satisfies: its rows are a question to the table (`question-form`, `question-fits`). A row is judged to fit exactly if it does.
 -- Assumes nothing.
 use Prim.Native.Nat.{ℕ, suc, _+_, _*_, _≤_}
 use mathlib.Core.Bool.{Bool, true, false, cond, _&&_}
@@ -6,21 +6,22 @@ use mathlib.Core.List.{List, [], _∷_, _++_}
 use mathlib.Core.Path.{_≡_, refl, sym, _∙_, subst}
 use borrow.Author.Tests.{eqb-true, eqb-false, ltb-true}
 use native.Mathlib.Omega.{arith}
-use lib.Dec.{T, leb, eqb, leb→le, le→leb, eqb→eq}
+use lib.Dec.{T, leb, eqb, le→leb}
 use lib.Ieee.Fits.{and-i, and-l, and-r}
-use lib.ListN.{length, getD, length-replicate}
+use lib.ListN.{length, length-replicate}
 use Rattle.refusals.specs.Judged.Judged.{accepted}
 use Rattle.lists.specs.Arrays.{padded}
+use Rattle.graphs.proofs.Lists.{T-true}
 use Rattle.fields.proofs.Digits.{Low}
 use Rattle.fields.proofs.LineFiles.{file-keeps}
 use Rattle.automata.specs.Automaton.{Automaton}
 use Rattle.automata.specs.Questions.{Row, Use, kindOf}
 use Rattle.automata.specs.Questions.Use.{locationNumber, registerNumber, constantNumber, rowNumber, unused}
-use Rattle.automata.specs.WellFormed.{inside, fitsUse, fitsRow, fitsRows, fitsQuestion}
+use Rattle.automata.specs.WellFormed.{inside, constantCount, fitsUse, fitsRow, fitsRows, fitsQuestion}
 use Rattle.questions.specs.declared.Counts.{Counts}
 use Rattle.questions.specs.QuestionRules.{firstOf, judgeField, judgeRow, rowIn, judgeFields}
 use Rattle.forms.specs.QuestionForm.{questionLength, rowsOf}
-use Rattle.forms.proofs.QuestionRows.{HasRow, has-row, put-length, rows-length, rows-put, put-low, zeros-low}
+use Rattle.forms.proofs.QuestionRows.{HasRow, has-row, put-length, rows-length, rows-put}
 use Rattle.questions.specs.Question.{Rows, nothingRead, questionRules, counts, readQuestion}
 
 -- An accepted row
@@ -42,9 +43,6 @@ pub three-fields : (k : Bool) (count x : ℕ) → eqb count 3 ≡ k → cond k x
 three-fields true count x h e = (eqb-true count 3 h, e)
 three-fields false count x h e = absurd (omega arith)
 
-inside-most : (m x : ℕ) → T (inside m x) → x ≤ m
-inside-most m x h = leb→le x m (and-r (leb 1 x) (leb x m) h)
-
 rows-snoc : (a : Automaton) (n m : ℕ) (rs : List Row) (r : Row) → n + length rs ≡ m → T (fitsRows a n rs) → T (fitsRow a m r) → T (fitsRows a n (rs ++ (r ∷ [])))
 rows-snoc a n m [] r e h k = let z : n ≡ m = omega arith in and-i (fitsRow a n r) true (rw z k) tt
 rows-snoc a n m (q ∷ rs) r e h k =
@@ -52,12 +50,9 @@ rows-snoc a n m (q ∷ rs) r e h k =
     (rows-snoc a (suc n) m rs r (omega arith) (and-r (fitsRow a n q) (fitsRows a (suc n) rs) h) k)
 
 module _ (a : Automaton) where
-  abbrev countsOf : Counts
+  -- how many registers, constants and locations it has
+  abbrev pub countsOf : Counts
   countsOf = counts (a .registers) (length (a .constants)) (a .locations)
-
-  -- no number of an accepted form is larger
-  abbrev pub bound : ℕ
-  bound = 32 + a .registers + length (a .constants) + a .locations
 
   fits-field : (n : ℕ) (u : Use) (x : ℕ) → judgeField countsOf n u x ≡ 0 → T (fitsUse a n u x)
   unfolding judgeField
@@ -67,35 +62,40 @@ module _ (a : Automaton) where
   fits-field n rowNumber x e = passed (inside n x) 7 e
   fits-field n unused x e = passed (eqb x 0) 4 e
 
-  low-field : (n : ℕ) (u : Use) (x : ℕ) → n ≤ 32 → T (fitsUse a n u x) → x ≤ bound
-  low-field n locationNumber x h t = omega (arith, inside-most (a .locations) x t)
-  low-field n registerNumber x h t = omega (arith, inside-most (a .registers) x t)
-  low-field n constantNumber x h t = omega (arith, inside-most (length (a .constants)) x t)
-  low-field n rowNumber x h t = omega (arith, inside-most n x t)
-  low-field n unused x h t = omega (arith, eqb→eq x 0 t)
+  field-judged : (n : ℕ) (u : Use) (x : ℕ) → T (fitsUse a n u x) → judgeField countsOf n u x ≡ 0
+  unfolding judgeField
+  field-judged n locationNumber x h = rw (T-true (inside (a .locations) x) h)
+  field-judged n registerNumber x h = rw (T-true (inside (a .registers) x) h)
+  field-judged n constantNumber x h = rw (T-true (inside (constantCount a) x) h)
+  field-judged n rowNumber x h = rw (T-true (inside n x) h)
+  field-judged n unused x h = rw (T-true (eqb x 0) h)
 
   module _ (n : ℕ) (r : Row) (e : judgeRow countsOf n r ≡ 0) where
     judged-row : T (inside 14 (r .kind)) × (judgeField countsOf n (kindOf (r .kind) .first) (r .first) ≡ 0) × (judgeField countsOf n (kindOf (r .kind) .second) (r .second) ≡ 0)
     unfolding judgeRow
     judged-row = both-passed (inside 14 (r .kind)) _ _ e
 
-    fits-first : T (fitsUse a n (kindOf (r .kind) .first) (r .first))
-    fits-first = fits-field n (kindOf (r .kind) .first) (r .first) (judged-row .1)
-
-    fits-second : T (fitsUse a n (kindOf (r .kind) .second) (r .second))
-    fits-second = fits-field n (kindOf (r .kind) .second) (r .second) (judged-row .2)
-
-    fits-row : T (fitsRow a n r)
-    fits-row =
+    -- a row that is judged to fit does
+    pub row-fits : T (fitsRow a n r)
+    row-fits =
+        let (k, x, y) = judged-row in
         and-i (inside 14 (r .kind) && fitsUse a n (kindOf (r .kind) .first) (r .first)) (fitsUse a n (kindOf (r .kind) .second) (r .second))
-        (and-i (inside 14 (r .kind)) (fitsUse a n (kindOf (r .kind) .first) (r .first)) (judged-row .0) fits-first)
-        fits-second
+        (and-i (inside 14 (r .kind)) (fitsUse a n (kindOf (r .kind) .first) (r .first)) k (fits-field n (kindOf (r .kind) .first) (r .first) x))
+        (fits-field n (kindOf (r .kind) .second) (r .second) y)
+
+  -- and a row that fits is judged so
+  pub row-judged : (n : ℕ) (r : Row) → T (fitsRow a n r) → judgeRow countsOf n r ≡ 0
+  unfolding judgeRow
+  row-judged n r t =
+      let k : T (inside 14 (r .kind)) = search (and-l, and-r) in
+      let x : T (fitsUse a n (kindOf (r .kind) .first) (r .first)) = search (and-l, and-r) in
+      let y : T (fitsUse a n (kindOf (r .kind) .second) (r .second)) = search (and-l, and-r) in
+      rw (T-true (inside 14 (r .kind)) k, field-judged n (kindOf (r .kind) .first) (r .first) x, field-judged n (kindOf (r .kind) .second) (r .second) y)
 
   -- the rows q after m bytes
   record After (m : ℕ) (q : Rows) : Type 0 where
     size : length (q .form) ≡ questionLength
     used : 19 * q .count ≤ m
-    low : (i : ℕ) → getD (q .form) i 0 ≤ bound
     fits : T (fitsRows a 0 (rowsOf (q .form) (q .count)))
 
   after-row : (m : ℕ) (q : Rows) (fs : List ℕ) → Low (padded 6 fs) → judgeFields countsOf (q .count) (length fs) (padded 6 fs) ≡ 0 → m + (6 * length fs + 1) ≤ 608 → After m q
@@ -112,12 +112,7 @@ module _ (a : Automaton) where
       record {
         size = put-length t n r ∙ s .size;
         used = omega (arith, s .used, g .0);
-        low =
-            put-low bound t n r (omega (arith, inside-most 14 (r .kind) (judged-row n r j .0)))
-            (low-field n (kindOf (r .kind) .first) (r .first) (omega (arith, s .used)) (fits-first n r j))
-            (low-field n (kindOf (r .kind) .second) (r .second) (omega (arith, s .used)) (fits-second n r j))
-            (s .low);
-        fits = subst (λ (rs : List Row). T (fitsRows a 0 rs)) (sym (rows-put t n r k)) (rows-snoc a 0 n (rowsOf t n) r z (s .fits) (fits-row n r j));
+        fits = subst (λ (rs : List Row). T (fitsRows a 0 rs)) (sym (rows-put t n r k)) (rows-snoc a 0 n (rowsOf t n) r z (s .fits) (row-fits n r j));
       }
 
   -- the form t of n rows holds a question to the table
@@ -125,7 +120,6 @@ module _ (a : Automaton) where
     pub long : length t ≡ questionLength
     pub least : 1 ≤ n
     pub most : n ≤ 32
-    pub low : (i : ℕ) → getD t i 0 ≤ bound
     pub fits : T (fitsQuestion a (rowsOf t n))
 
   -- what holds of every question that is read
@@ -143,7 +137,6 @@ module _ (a : Automaton) where
         long = f .size;
         least = least;
         most = most;
-        low = f .low;
         fits =
             and-i (inside 32 (length (rowsOf t n))) (fitsRows a 0 (rowsOf t n))
             (subst (λ (x : ℕ). T (inside 32 x)) c (and-i (leb 1 n) (leb n 32) (le→leb 1 n least) (le→leb n 32 most)))
@@ -151,7 +144,7 @@ module _ (a : Automaton) where
       }
     where
       begins : After 0 nothingRead
-      begins = record { size = length-replicate {A = ℕ} questionLength 0; used = omega arith; low = zeros-low bound questionLength; fits = tt }
+      begins = record { size = length-replicate {A = ℕ} questionLength 0; used = omega arith; fits = tt }
 
   pub question-fits : (s : List ℕ) (q : Rows) → readQuestion (a .registers) (length (a .constants)) (a .locations) s ≡ accepted q → T (fitsQuestion a (rowsOf (q .form) (q .count)))
   question-fits s q e = question-form s q e .fits

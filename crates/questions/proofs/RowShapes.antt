@@ -5,10 +5,9 @@ use mathlib.Core.Bool.{true, and-eq-true-iff}
 use mathlib.Core.Path.{_≡_}
 use borrow.Author.Tests.{leb-true}
 use lib.Dec.{leb}
-use Rattle.automata.specs.Questions.{kindOf}
+use Rattle.automata.specs.Questions.{row, kindOf}
 use Rattle.automata.specs.WellFormed.{inside}
 use Rattle.forms.specs.Shapes.{useOf, shapeOf}
-use Rattle.forms.specs.QuestionForm.{row}
 use Rattle.forms.proofs.KindTable.{Means, shape-kind}
 use Rattle.questions.specs.declared.Counts.{Counts}
 use Rattle.questions.specs.QuestionRules.{judgeField, firstOf, judgeRow}

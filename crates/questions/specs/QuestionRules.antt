@@ -5,10 +5,9 @@ use mathlib.Core.Bool.{cond}
 use mathlib.Core.List.{List}
 use lib.Dec.{eqb}
 use lib.ListN.{getD}
-use Rattle.automata.specs.Questions.{Row, Use, kindOf}
+use Rattle.automata.specs.Questions.{Row, row, Use, kindOf}
 use Rattle.automata.specs.Questions.Use.{locationNumber, registerNumber, constantNumber, rowNumber, unused}
 use Rattle.automata.specs.WellFormed.{inside}
-use Rattle.forms.specs.QuestionForm.{row}
 use Rattle.questions.specs.declared.Counts.{Counts}
 
 -- the refusal, or 0 where x counts from 1 up to most

@@ -2,9 +2,9 @@
 ghost use mathlib.Core.Path.{_≡_};
 ghost use Prim.Native.Nat.{_≤_};
 ghost use lib.ListN.{length};
+ghost use Rattle.automata.specs.Questions.{row};
 ghost use Rattle.fields.specs.Machine.{between, judgeRead, ended, fed, run};
 ghost use Rattle.forms.specs.Shapes.{useOf};
-ghost use Rattle.forms.specs.QuestionForm.{row};
 ghost use Rattle.questions.specs.QuestionRules.{judgeNumber, judgeField, judgeRow, judgeFields};
 ghost use Rattle.questions.specs.Question.{questionRules, readQuestion};
 ghost use Rattle.questions.specs.QuestionReply.{replyOf, formOf};
@@ -51,7 +51,7 @@ fn judge_field(c: Counts, n: u32, u: Use, x: u32) -> u32
 }
 
 // The refusal of a row, or 0: its values from left to right.
-fn judge_row(c: Counts, n: u32, k: u32, a: u32, b: u32) -> u32
+pub fn judge_row(c: Counts, n: u32, k: u32, a: u32, b: u32) -> u32
     ensures { λ r. ⌜ r ≡ judgeRow c n (row k a b) ⌝ }
 {
     if (1 <= k) & (k <= 14) {

@@ -4,8 +4,8 @@ use mathlib.Core.List.{List, [], _∷_}
 use mathlib.Core.Path.{refl}
 use native.Mathlib.Omega.{arith}
 use Rattle.columns.specs.Columns.{columnOf}
-use Rattle.automata.specs.Questions.{Row}
-use Rattle.automata.specs.Examples.{sample, loose, delivered, deliveredByOne, asked}
+use Rattle.automata.specs.Questions.{Row, row}
+use Rattle.automata.specs.Examples.{sample, loose, delivered, deliveredByOne}
 use Rattle.writing.specs.Said.{TableFile, TargetFile, QuestionFile}
 use Rattle.writing.specs.Sample.{sampleBytes, looseBytes, deliveredBytes, deliveredByOneBytes, alwaysBytes, inevitableBytes}
 
@@ -31,10 +31,10 @@ loose-by-one-says = record { written = refl; fits = tt; few = omega arith }
 
 -- the questions' rows
 abbrev pub alwaysRows : List Row
-alwaysRows = asked 2 1 1 ∷ asked 8 1 0 ∷ []
+alwaysRows = row 2 1 1 ∷ row 8 1 0 ∷ []
 
 abbrev pub inevitableRows : List Row
-inevitableRows = asked 1 3 0 ∷ asked 14 1 0 ∷ []
+inevitableRows = row 1 3 0 ∷ row 14 1 0 ∷ []
 
 pub always-says : QuestionFile sample alwaysBytes alwaysRows
 unfolding columnOf

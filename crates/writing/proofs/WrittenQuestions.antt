@@ -11,17 +11,16 @@ use lib.ListN.{length, length-replicate, length-append}
 use Rattle.refusals.specs.Judged.Judged.{accepted}
 use Rattle.lists.specs.Arrays.{padded}
 use Rattle.fields.proofs.Digits.{low-zeros, low-cons}
-use Rattle.graphs.proofs.Lists.{T-true}
 use Rattle.automata.specs.Automaton.{Automaton}
-use Rattle.automata.specs.Questions.{Row, Use, kindOf}
+use Rattle.automata.specs.Questions.{Row, row, Use, kindOf}
 use Rattle.automata.specs.Questions.Use.{locationNumber, registerNumber, constantNumber, rowNumber, unused}
 use Rattle.automata.specs.WellFormed.{inside, constantCount, fitsUse, fitsRow, fitsRows, fitsQuestion}
 use Rattle.automata.proofs.Equivariance.{inside→}
-use Rattle.forms.specs.QuestionForm.{row, put, rowsOf}
+use Rattle.forms.specs.QuestionForm.{put, rowsOf}
 use Rattle.forms.proofs.QuestionRows.{put-length, rows-put}
 use Rattle.questions.specs.declared.Counts.{Counts}
-use Rattle.questions.specs.QuestionRules.{judgeField, judgeRow, rowIn, judgeFields}
-use Rattle.questions.proofs.Fits.{three-fields}
+use Rattle.questions.specs.QuestionRules.{judgeRow, rowIn, judgeFields}
+use Rattle.questions.proofs.Fits.{three-fields, countsOf, row-judged}
 use Rattle.questions.specs.Question.{Rows, nothingRead, questionRules, counts, readQuestion}
 use Rattle.columns.specs.Columns.{columns}
 use Rattle.writing.specs.Lines.{questionLines, questionBytes}
@@ -79,17 +78,6 @@ question-canonical r c l s u e =
 -- What fits is read
 
 module _ (a : Automaton) where
-  abbrev countsOf : Counts
-  countsOf = counts (a .registers) (constantCount a) (a .locations)
-
-  field-judged : (n : ℕ) (u : Use) (x : ℕ) → T (fitsUse a n u x) → judgeField countsOf n u x ≡ 0
-  unfolding judgeField
-  field-judged n locationNumber x h = rw (T-true (inside (a .locations) x) h)
-  field-judged n registerNumber x h = rw (T-true (inside (a .registers) x) h)
-  field-judged n constantNumber x h = rw (T-true (inside (constantCount a) x) h)
-  field-judged n rowNumber x h = rw (T-true (inside n x) h)
-  field-judged n unused x h = rw (T-true (eqb x 0) h)
-
   -- of numbers that can be written
   module _ (rs : a .registers < 1000000) (cs : constantCount a < 1000000) (ls : a .locations < 1000000) where
     use-low : (n : ℕ) (u : Use) (x : ℕ) → n ≤ 32 → T (fitsUse a n u x) → x < 1000000
@@ -100,8 +88,7 @@ module _ (a : Automaton) where
     use-low n unused x h t = omega (arith, eqb→eq x 0 t)
 
     -- a row that fits is a line that is taken
-    row-taken : (n : ℕ) (r : Row) → n ≤ 32 → T (fitsRow a n r) → Plain (r .kind ∷ r .first ∷ r .second ∷ []) × (judgeRow countsOf n r ≡ 0)
-    unfolding judgeRow
+    row-taken : (n : ℕ) (r : Row) → n ≤ 32 → T (fitsRow a n r) → Plain (r .kind ∷ r .first ∷ r .second ∷ []) × (judgeRow (countsOf a) n r ≡ 0)
     row-taken n r h t =
         let k : T (inside 14 (r .kind)) = search (and-l, and-r) in
         let x : T (fitsUse a n (kindOf (r .kind) .first) (r .first)) = search (and-l, and-r) in
@@ -112,10 +99,10 @@ module _ (a : Automaton) where
                 (low-cons (r .first) (r .second ∷ []) (use-low n (kindOf (r .kind) .first) (r .first) h x)
                 (low-cons (r .second) [] (use-low n (kindOf (r .kind) .second) (r .second) h y) (low-zeros 0)));
           },
-          rw (T-true (inside 14 (r .kind)) k, field-judged n (kindOf (r .kind) .first) (r .first) x, field-judged n (kindOf (r .kind) .second) (r .second) y),
+          row-judged a n r t,
         )
 
-    rows-taken : (qs : List Row) (n : ℕ) (q : Rows) → q .count ≡ n → n + length qs ≤ 32 → 1 ≤ n + length qs → T (fitsRows a n qs) → (u : Rows) × Taken (questionRules countsOf) (questionLines qs) q u
+    rows-taken : (qs : List Row) (n : ℕ) (q : Rows) → q .count ≡ n → n + length qs ≤ 32 → 1 ≤ n + length qs → T (fitsRows a n qs) → (u : Rows) × Taken (questionRules (countsOf a)) (questionLines qs) q u
     unfolding judgeFields padded
     rows-taken [] n q e h k t = (q, (refl, lt-ltb 0 (q .count) (omega arith)))
     rows-taken (r ∷ qs) n q e h k t =
@@ -130,4 +117,4 @@ module _ (a : Automaton) where
     question-written qs f =
         let (least, most) = inside→ 32 (length qs) (and-l (inside 32 (length qs)) (fitsRows a 0 qs) f) in
         let (u, taken) = rows-taken qs 0 nothingRead refl (omega arith) (omega arith) (and-r (inside 32 (length qs)) (fitsRows a 0 qs) f) in
-        (u, file-read (questionRules countsOf) 2 u 608 nothingRead (questionLines qs) (omega (arith, question-length qs)) taken, rows-all countsOf qs u most taken)
+        (u, file-read (questionRules (countsOf a)) 2 u 608 nothingRead (questionLines qs) (omega (arith, question-length qs)) taken, rows-all (countsOf a) qs u most taken)
