@@ -1,10 +1,10 @@
 #!/usr/bin/env python3
-"""Writes the boundary cases of reading: for each refusal number of document 01 files at and just past its limit.
+"""Writes the boundary cases of reading: for each refusal number of documents 01 and 02 (W1) files at and just past its limit.
 
-boundaries.py DATA STDOUT writes the files NNN.table, NNN.target, NNN.question to the folder DATA, and to the file STDOUT
-what must be printed for them: case, refusal number, file, line (0 0 0 where all is read), and which files are there (0 none,
-1 the table, 3 the table and a target, 5 the table and a question), each in six columns.
-The expected numbers are written by hand from document 01, beside each case. The engine's tests (tests/stored.rs) compare
+boundaries.py DATA STDOUT writes the files NNN.table, NNN.target, NNN.question, NNN.text to the folder DATA, and to the file
+STDOUT what must be printed for them: case, refusal number, file, line (0 0 0 where all is read), and which files are there
+(0 none, 1 the table, 3 the table and a target, 5 the table and a question, 9 the table and a question as text), each in six
+columns. The expected numbers are written by hand from the documents, beside each case. The engine's tests (tests/stored.rs) compare
 them with the engine."""
 import os
 import shutil
@@ -55,15 +55,28 @@ FOLDER = object()  # in the place of a file's bytes
 
 
 def table(data, number=0, line=0, why=""):
-    cases.append((data, None, None, (number, 1 if number else 0, line, 1), why))
+    cases.append(({"table": data}, (number, 1 if number else 0, line, 1), why))
+
+
+def other(kind, files, data, number, line, why, table):
+    cases.append(({"table": table, kind: data}, (number, 2 if number else 0, line, files), why))
 
 
 def target(data, number=0, line=0, why="", table=SAMPLE_BYTES):
-    cases.append((table, data, None, (number, 2 if number else 0, line, 3), why))
+    other("target", 3, data, number, line, why, table)
 
 
 def question(data, number=0, line=0, why="", table=SAMPLE_BYTES):
-    cases.append((table, None, data, (number, 2 if number else 0, line, 5), why))
+    other("question", 5, data, number, line, why, table)
+
+
+def text(data, number=0, line=0, why="", table=SAMPLE_BYTES):
+    other("text", 9, data, number, line, why, table)
+
+
+def joined(places, sign=b"&"):
+    """So many times place 1, each bracket in the one before: 2 * places - 1 rows."""
+    return (b"(L1" + sign) * (places - 1) + b"L1" + b")" * (places - 1)
 
 
 # what is read
@@ -207,7 +220,178 @@ question(lines((15, 9, 9)), 5, 1, "the kind comes first")
 table(FOLDER, 2, 1, "a folder in the place of the table")
 target(FOLDER, 2, 1, "a folder in the place of the target")
 question(FOLDER, 2, 1, "a folder in the place of the question")
-cases.append((None, None, None, (0, 0, 0, 0), "no table"))
+cases.append(({}, (0, 0, 0, 0), "no table"))
+# questions as text, to the sample: 2 registers, 1 constant, 3 places
+text(b"AG!(L3&r1=r2)", why="document 02's own")
+text(b"L1", why="a place")
+text(b"r1=r2", why="two registers")
+text(b"r2=c1", why="a register and a constant")
+text(b"!L1", why="not")
+text(b"EXL1", why="EX")
+text(b"EGL1", why="EG")
+text(b"EFL1", why="EF")
+text(b"AXL1", why="AX")
+text(b"AGL1", why="AG")
+text(b"AFL1", why="AF")
+text(b"(L1&L2)", why="and")
+text(b"(L1|L2)", why="or")
+text(b"(L1>L2)", why="implies")
+text(b"E(L1UL2)", why="E U")
+text(b"E((L1&L2)U!E(L1UL2))", why="brackets in brackets")
+text(b"EXEGEFAXAGAF!!L1", why="operators in a row")
+text(b"(r1=r1>(L3|r2=c1))", why="all signs of atoms")
+# 1
+text(b"!" * 398 + b"L1", 12, 0, "400 bytes are looked at")
+text(b"!" * 399 + b"L1", 1, 0, "401 bytes, a question")
+text(b"!" * 400, 11, 401, "400 bytes that begin one")
+text(b"!" * 401, 1, 0, "401 bytes that begin one")
+text(b"!" * 399 + b"x", 11, 400, "the last byte of 400")
+text(b"x" * 401, 1, 0, "401 bytes of which the first is wrong: 1 before 11")
+text(b"(" * 400, 11, 401, "400 brackets")
+text(b"AG" * 198 + b"L12)", 11, 400, "a bracket too many at the limit")
+text(b"E(" * 57 + b"L1" + b"UL1)" * 57, 12, 0, "57 brackets in each other, 344 bytes")
+# 11: at the end
+text(b"", 11, 1, "an empty file")
+text(b"L", 11, 2, "no place")
+text(b"r", 11, 2, "no register")
+text(b"r1", 11, 3, "no =")
+text(b"r1=", 11, 4, "nothing right of =")
+text(b"r1=r", 11, 5, "no register right of =")
+text(b"r1=c", 11, 5, "no constant")
+text(b"!", 11, 2, "nothing is negated")
+text(b"E", 11, 2, "E alone")
+text(b"A", 11, 2, "A alone")
+text(b"EX", 11, 3, "EX of nothing")
+text(b"AG", 11, 3, "AG of nothing")
+text(b"(", 11, 2, "an open bracket")
+text(b"(L1", 11, 4, "no sign between two questions")
+text(b"(L1&", 11, 5, "no right side")
+text(b"(L1&L2", 11, 7, "no closing bracket")
+text(b"(L1&L22", 11, 8, "no closing bracket after two digits")
+text(b"E(", 11, 3, "E( alone")
+text(b"E(L1", 11, 5, "no U")
+text(b"E(L1U", 11, 6, "nothing after U")
+text(b"E(L1UL2", 11, 8, "E U without its closing bracket")
+# 11: numbers
+text(b"L9", 5, 1, "one digit")
+text(b"L10", 5, 1, "two digits")
+text(b"L99", 5, 1, "the largest number")
+text(b"L0", 11, 2, "0")
+text(b"L01", 11, 2, "a leading zero")
+text(b"L100", 11, 4, "three digits")
+text(b"r1=r100", 11, 7, "three digits, right")
+text(b"r0=r1", 11, 2, "register 0")
+text(b"r1=c0", 11, 5, "constant 0")
+text(b"L-1", 11, 2, "a sign")
+text(b"LL1", 11, 2, "two letters")
+text(b"L1L2", 11, 3, "two places")
+text(b"L1&L2", 11, 3, "no brackets")
+# 11: brackets
+text(b"(L1)", 11, 4, "brackets around one question")
+text(b"((L1&L2))", 11, 9, "brackets around brackets")
+text(b"(L1&L2))", 11, 8, "a closing bracket too many")
+text(b"L1)", 11, 3, "a closing bracket alone")
+text(b")", 11, 1, "a closing bracket first")
+text(b"()", 11, 2, "empty brackets")
+text(b"(&L1)", 11, 2, "no left side")
+text(b"(L1&)", 11, 5, "no right side, closed")
+text(b"(L1&&L2)", 11, 5, "a sign twice")
+text(b"(L1&L2&L3)", 11, 7, "three questions in one bracket")
+text(b"(L1=L2)", 11, 4, "= between places")
+text(b"(L1<L2)", 11, 4, "< between questions")
+text(b"(L1UL2)", 11, 4, "U without E")
+text(b"E(L1&L2)", 11, 5, "& in E U")
+text(b"E(L1UL2UL3)", 11, 8, "U twice")
+text(b"E(L1)", 11, 5, "E of one question")
+text(b"EU(L1UL2)", 11, 2, "EU")
+text(b"A(", 11, 2, "there is no A(")
+text(b"A(L1UL2)", 11, 2, "A U")
+text(b"E!L1", 11, 2, "E before a question")
+text(b"[L1&L2]", 11, 1, "other brackets")
+# 11: letters
+text(b"c1=r1", 11, 1, "a constant on the left")
+text(b"c1=c1", 11, 1, "two constants")
+text(b"r1=L1", 11, 4, "a place on the right")
+text(b"L1=r1", 11, 3, "a place on the left")
+text(b"r1==r2", 11, 4, "= twice")
+text(b"r1!=r2", 11, 3, "different has no sign")
+text(b"r1=2", 11, 4, "a number alone")
+text(b"l1", 11, 1, "a small letter")
+text(b"R1=R2", 11, 1, "a capital")
+text(b"r1=R2", 11, 4, "a capital on the right")
+text(b"ag!L1", 11, 1, "small letters of an operator")
+text(b"ExL1", 11, 2, "a small letter of an operator")
+text(b"EUL1", 11, 2, "an operator that is none")
+text(b"AUL1", 11, 2, "another")
+text(b"GL1", 11, 1, "G alone")
+text(b"FL1", 11, 1, "F alone")
+text(b"p1=r1", 11, 1, "a parameter")
+text(b"Q", 11, 1, "a letter of no meaning")
+text(b"1", 11, 1, "a digit first")
+# 11: what does not belong there
+text(b"L1\n", 11, 3, "byte 10 at the end")
+text(b"L12\n", 11, 4, "byte 10 after two digits")
+text(b"L1\r\n", 11, 3, "a Windows line end")
+text(b"\n", 11, 1, "byte 10 alone")
+text(b" L1", 11, 1, "a blank in front")
+text(b"L1 ", 11, 3, "a blank at the end")
+text(b"(L1 & L2)", 11, 4, "blanks between")
+text(b"AG L1", 11, 3, "a blank behind an operator")
+text(b"L 1", 11, 2, "a blank before a number")
+text(b"L1\t", 11, 3, "a tab")
+text(b"L1\x00", 11, 3, "byte 0 at the end")
+text(b"\x00", 11, 1, "byte 0 alone")
+text(b"\xef\xbb\xbfL1", 11, 1, "a byte order mark")
+text(b"L1\xff", 11, 3, "byte 255")
+text(b"(L1\xe2\x88\xa7L2)", 11, 4, "a sign of mathematics")
+text(b"L\xb1", 11, 2, "a digit with its highest bit set")
+text(lines((1, 3, 0), (14, 1, 0)), 11, 1, "rows of a question")
+# 12
+text(b"!" * 31 + b"L1", why="32 rows")
+text(b"!" * 32 + b"L1", 12, 0, "33 rows")
+text(joined(16), why="16 places: 31 rows, repeats included")
+text(joined(17), 12, 0, "17 places: 33 rows")
+text(b"!" + joined(16), why="a row more: 32")
+text(b"(" * 16 + b"L1" + b"|L1)" * 16, 12, 0, "33 rows, brackets on the left")
+text(b"(" * 15 + b"L1" + b"|L1)" * 15, why="31 rows, brackets on the left")
+text(b"!" * 254 + b"L1", 12, 0, "255 rows")
+text(b"!" * 255 + b"L1", 12, 0, "256 rows: a count of 8 bits would be 0")
+text(b"!" * 256 + b"L1", 12, 0, "257 rows")
+text(b"!" * 287 + b"L1", 12, 0, "288 rows: of 8 bits 32")
+text(joined(80), 12, 0, "80 places: 159 rows in 397 bytes")
+text(b"!" * 40 + b"x", 11, 41, "11 however many rows")
+text(b"!" * 40, 11, 41, "41 rows begun, and none is whole")
+text(joined(20)[:-1], 11, len(joined(20)), "a bracket missing after more than 32 rows")
+# 5
+text(b"L3", why="the last place")
+text(b"L4", 5, 1, "a place out of range")
+text(b"r3=r1", 5, 1, "a register out of range, left")
+text(b"r1=r3", 5, 1, "a register out of range, right")
+text(b"r1=c2", 5, 1, "a constant out of range")
+text(b"r3=c2", 5, 1, "both: the row counts")
+text(b"!L4", 5, 1, "the row of the place, not of the operator")
+text(b"(L1&L4)", 5, 2, "the second row")
+text(b"(L4&L5)", 5, 1, "the first of two")
+text(b"(!L1&L4)", 5, 3, "a row of the left question before the right one's")
+text(b"((L1&L2)&(L3&L4))", 5, 5, "the fifth row")
+text(b"E(L1UL4)", 5, 2, "in E U")
+text(b"!" * 30 + b"L4", 5, 1, "out of range in 31 rows")
+text(b"(!" + joined(15) + b"&L4)", 5, 31, "row 31 of 32")
+text(b"!" * 32 + b"L4", 12, 0, "12 before 5")
+text(b"(L4&L1", 11, 7, "11 before 5")
+text(b"(L4&L1)x", 11, 8, "11 before 5, at the last byte")
+text(b"(L99&L0)", 11, 7, "11 after a number out of range")
+# other tables
+text(b"r1=r1", 5, 1, "no register", small(registers=0))
+text(b"r1=c1", 5, 1, "no constant", small())
+text(b"(L16&(r5=r5|r5=c2))", 0, 0, "all at the limit", small(registers=5, constants=(0, 1), locations=16))
+text(b"(L17&L16)", 5, 1, "place 17 of 16", small(locations=16))
+text(b"(L16&r6=r5)", 5, 2, "register 6 of 5", small(registers=5, locations=16))
+# the table first
+cases.append(({"table": b"", "text": b"x"}, (2, 1, 1, 1), "2 of the table before 11"))
+cases.append(({"table": small(starting=[(1, 1, 2, 1, 1)]), "text": b"!" * 401}, (7, 1, 0, 1), "7 before 1 of the text"))
+# what cannot be read counts as empty
+text(FOLDER, 11, 1, "a folder in the place of the text")
 
 
 def write(path, content):
@@ -223,10 +407,9 @@ def main():
     shutil.rmtree(data, ignore_errors=True)
     os.makedirs(data)
     with open(stdout, "w") as out:
-        for i, (t, g, q, expected, why) in enumerate(cases, 1):
-            for kind, content in (("table", t), ("target", g), ("question", q)):
-                if content is not None:
-                    write(os.path.join(data, "%03d.%s" % (i, kind)), content)
+        for i, (files, expected, why) in enumerate(cases, 1):
+            for kind, content in files.items():
+                write(os.path.join(data, "%03d.%s" % (i, kind)), content)
             out.write(fields(i, *expected) + "\n")
 
 

@@ -5,6 +5,7 @@ mod linked {
     extern "C" {
         fn maceplateau_reach(table: *const u8, table_length: usize, target: *const u8, target_length: usize) -> u32;
         fn maceplateau_ask(table: *const u8, table_length: usize, question: *const u8, question_length: usize) -> u32;
+        fn maceplateau_ask_text(table: *const u8, table_length: usize, text: *const u8, text_length: usize) -> u32;
     }
 
     pub fn reach(table: &[u8], target: &[u8]) -> u32 {
@@ -14,6 +15,10 @@ mod linked {
 
     pub fn ask(table: &[u8], question: &[u8]) -> u32 {
         unsafe { maceplateau_ask(table.as_ptr(), table.len(), question.as_ptr(), question.len()) }
+    }
+
+    pub fn ask_text(table: &[u8], text: &[u8]) -> u32 {
+        unsafe { maceplateau_ask_text(table.as_ptr(), table.len(), text.as_ptr(), text.len()) }
     }
 }
 
@@ -40,6 +45,17 @@ pub fn ask(table: &[u8], question: &[u8]) -> Option<u32> {
     #[cfg(not(checker))]
     {
         let _ = (table, question);
+        None
+    }
+}
+
+/// The same of a question as a line of text.
+pub fn ask_text(table: &[u8], text: &[u8]) -> Option<u32> {
+    #[cfg(checker)]
+    return Some(linked::ask_text(table, text));
+    #[cfg(not(checker))]
+    {
+        let _ = (table, text);
         None
     }
 }

@@ -6,7 +6,10 @@
 
 use bench::checker;
 use bench::plain::{self, Rounds};
-use bench::tables::{long_run, many_losses, many_rounds, mix, sample, sized, smallest, worst, Case, Worst};
+use bench::tables::{
+    long_run, long_texts, many_losses, many_rounds, mix, sample, sample_texts, sized, smallest, worst, Case, Text,
+    Worst,
+};
 use std::hint::black_box;
 
 /// C's time: seconds and nanoseconds.
@@ -150,6 +153,98 @@ fn asking(c: &Case) {
     }
 }
 
+fn asking_text(table: &[u8], t: &Text) {
+    let code = checker::ask_text(table, &t.text);
+    let plainly = plain::ask_text(table, &t.text, Rounds::Back).expect("a good text");
+    if let Some(code) = code {
+        assert_eq!(code, plainly.yes as u32, "{}", t.name);
+    }
+    let mut ours = || {
+        black_box(checker::ask_text(black_box(table), black_box(&t.text)));
+    };
+    let mut whole = || {
+        black_box(plain::ask_text(black_box(table), black_box(&t.text), Rounds::Whole).is_ok());
+    };
+    let mut back = || {
+        black_box(plain::ask_text(black_box(table), black_box(&t.text), Rounds::Back).is_ok());
+    };
+    if checker::LINKED {
+        let times = time(&mut [&mut ours, &mut whole, &mut back]);
+        line(&t.name, Some(times[0]), &times[1..]);
+    } else {
+        let times = time(&mut [&mut whole, &mut back]);
+        line(&t.name, None, &times);
+    }
+}
+
+/// What is added to a call that takes so long.
+fn added(whole: Time, opening: Time) -> Time {
+    let median = whole.median - opening.median;
+    Time {
+        median,
+        // Of the whole call's trials, in percent of what is added.
+        spread: whole.spread * whole.median / median,
+    }
+}
+
+/// What reading long texts costs: each is turned back at its end, so a call opens the table, reads the text and does no
+/// more. Opening is the call with the empty text. All trials take turns.
+fn reading(table: &[u8]) {
+    let texts = long_texts();
+    for t in &texts {
+        assert_eq!(t.text.len(), 400, "{}", t.name);
+        let refused = plain::ask_text(table, &t.text, Rounds::Back).err().map(|r| r.number);
+        assert_eq!(refused, t.refused, "{}", t.name);
+        if let Some(code) = checker::ask_text(table, &t.text) {
+            assert_eq!(Some(code), t.refused.map(|n| 100 + n), "{}", t.name);
+        }
+    }
+    let mut calls: Vec<Box<dyn FnMut()>> = vec![];
+    if checker::LINKED {
+        calls.push(Box::new(|| {
+            black_box(checker::ask_text(black_box(table), black_box(&[])));
+        }));
+        calls.push(Box::new(|| {
+            black_box(checker::ask(black_box(table), black_box(&[])));
+        }));
+        for t in &texts {
+            calls.push(Box::new(|| {
+                black_box(checker::ask_text(black_box(table), black_box(&t.text)));
+            }));
+        }
+    }
+    calls.push(Box::new(|| {
+        black_box(plain::ask_text(black_box(table), black_box(&[]), Rounds::Back).is_ok());
+    }));
+    calls.push(Box::new(|| {
+        black_box(plain::ask(black_box(table), black_box(&[]), Rounds::Back).is_ok());
+    }));
+    for t in &texts {
+        calls.push(Box::new(|| {
+            black_box(plain::ask_text(black_box(table), black_box(&t.text), Rounds::Back).is_ok());
+        }));
+    }
+    let mut lent: Vec<&mut dyn FnMut()> = calls.iter_mut().map(|c| &mut **c as &mut dyn FnMut()).collect();
+    let times = time(&mut lent);
+    let (ours, plainly) = times.split_at(times.len() - texts.len() - 2);
+    let at = |i: usize| ours.get(i).copied();
+    line("opening the smallest table (empty text)", at(0), &plainly[..1]);
+    line("the same with an empty file of rows", at(1), &plainly[1..2]);
+    let mut most: f64 = 0.0;
+    for (i, t) in texts.iter().enumerate() {
+        let mine = at(i + 2).map(|whole| added(whole, ours[0]));
+        line(&t.name, mine, &[added(plainly[i + 2], plainly[0])]);
+        most = most.max(mine.map_or(0.0, |m| m.median));
+    }
+    if let Some(opening) = at(0) {
+        println!(
+            "Reading 400 bytes takes at most {}, opening the smallest table {}.",
+            short(most),
+            short(opening.median)
+        );
+    }
+}
+
 fn header(title: &str, columns: &[&str]) {
     let mut text = format!("\n{title:<48}{:>12}", "checker");
     for column in columns {
@@ -196,6 +291,14 @@ fn run() {
         asking(&many_losses(31));
     }
 
+    header("questions as text", &["plain", "going back"]);
+    for t in sample_texts() {
+        asking_text(&sample().table, &t);
+    }
+
+    header("reading 400 bytes, beyond the opening", &["plain"]);
+    reading(&smallest().table);
+
     header("growth: reaching", &["plain"]);
     for registers in 0..=5 {
         reaching(&sized(Worst::Set, registers, 64, 3));
@@ -232,6 +335,10 @@ fn write_files(folder: &str) -> std::io::Result<()> {
         std::fs::write(format!("{folder}/{name}.table"), &c.table)?;
         std::fs::write(format!("{folder}/{name}.target"), &c.target)?;
         std::fs::write(format!("{folder}/{name}.question"), &c.question)?;
+    }
+    let texts = sample_texts().into_iter().chain(long_texts());
+    for (i, t) in texts.enumerate() {
+        std::fs::write(format!("{folder}/{:02}.text", i + 1), &t.text)?;
     }
     Ok(())
 }

@@ -538,3 +538,53 @@ pub fn many_losses(rows: usize) -> Case {
     }
     rounds(format!("{rows} rows of 2,022 rounds, 8,762 losses each"), &arcs, rows)
 }
+
+/// A question as text, and the number of the refusal that it gets, if it gets one.
+pub struct Text {
+    pub name: String,
+    pub text: Vec<u8>,
+    pub refused: Option<u32>,
+}
+
+fn written(name: &str, text: String, refused: Option<u32>) -> Text {
+    Text {
+        name: name.to_string(),
+        text: text.into_bytes(),
+        refused,
+    }
+}
+
+/// Questions to the sample as text: document 02's own, and one of 32 rows with every operator.
+pub fn sample_texts() -> Vec<Text> {
+    vec![
+        written("sample, AG!(L3&r1=r2)", "AG!(L3&r1=r2)".to_string(), None),
+        written(
+            "sample, 32 rows",
+            "(EX(L1|L2)>(AXE(r1=c1UL2)|(EG!r1=r2&(AFL3>((AG(L3>!r1=c1)&EF(r1=r2|r2=c1))>!(L1&L2))))))".to_string(),
+            None,
+        ),
+    ]
+}
+
+/// Texts of 400 bytes that are read to their end and turned back there, the deepest nestings among them.
+pub fn long_texts() -> Vec<Text> {
+    let nested = |open: &str, atom: &str, close: &str, times: usize| {
+        let text = open.repeat(times) + atom + &close.repeat(times);
+        "!".repeat(400 - text.len()) + &text
+    };
+    vec![
+        written("399 times !, then x", "!".repeat(399) + "x", Some(11)),
+        written("398 times !, L1", nested("!", "L1", "", 398), Some(12)),
+        written("199 times AG, L1", nested("AG", "L1", "", 199), Some(12)),
+        written("400 times (", "(".repeat(400), Some(11)),
+        written("200 times E(", "E(".repeat(200), Some(11)),
+        written("79 brackets on the left", nested("(", "L1", "&L1)", 79), Some(12)),
+        written("79 brackets on the right", nested("(L1|", "L1", ")", 79), Some(12)),
+        written("66 times E( U ) on the left", nested("E(", "L1", "UL1)", 66), Some(12)),
+        written(
+            "39 times r11=r12, in brackets",
+            nested("(r11=r12>", "L1", ")", 39),
+            Some(12),
+        ),
+    ]
+}

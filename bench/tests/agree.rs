@@ -1,11 +1,13 @@
 //! The plain implementation gives what the independent engine gives, and the cases are what they are said to be.
 
-use bench::plain::{ask, reach, Refusal, Rounds};
-use bench::tables::{long_run, many_losses, many_rounds, mix, sample, sized, smallest, worst, Case, Worst};
+use bench::plain::{ask, ask_text, reach, Asked, Refusal, Rounds};
+use bench::tables::{
+    long_run, long_texts, many_losses, many_rounds, mix, sample, sample_texts, sized, smallest, worst, Case, Worst,
+};
 use engine::generate::{case, Shape};
 use engine::mutate::mutate;
 use engine::random::Random;
-use engine::{answer, write};
+use engine::{answer, texts, write};
 
 fn narrow(list: &[u32]) -> Vec<u16> {
     list.iter().map(|&x| x as u16).collect()
@@ -36,20 +38,29 @@ fn compare_reach(table: &[u8], target: &[u8], what: &str) {
     }
 }
 
+fn compare_asked(ours: Result<Asked, Refusal>, theirs: &Result<answer::Asked, engine::read::Refusal>, what: &str) {
+    match (ours, theirs) {
+        (Ok(ours), Ok(theirs)) => {
+            assert_eq!(ours.yes, theirs.yes, "{what}");
+            assert_eq!(ours.class, theirs.class, "{what}");
+            assert!(ours.contents.starts_with(&theirs.contents), "{what}");
+            assert!(ours.rows == theirs.rows, "rows: {what}");
+        }
+        (Err(ours), Err(theirs)) => assert_eq!(same(ours), *theirs, "{what}"),
+        _ => panic!("{what}"),
+    }
+}
+
 fn compare_ask(table: &[u8], question: &[u8], what: &str) {
     let theirs = answer::ask(table, question, None);
     for rounds in [Rounds::Whole, Rounds::Back] {
-        match (ask(table, question, rounds), &theirs) {
-            (Ok(ours), Ok(theirs)) => {
-                assert_eq!(ours.yes, theirs.yes, "{what}");
-                assert_eq!(ours.class, theirs.class, "{what}");
-                assert!(ours.contents.starts_with(&theirs.contents), "{what}");
-                assert!(ours.rows == theirs.rows, "rows: {what}");
-            }
-            (Err(ours), Err(theirs)) => assert_eq!(same(ours), *theirs, "{what}"),
-            _ => panic!("{what}"),
-        }
+        compare_asked(ask(table, question, rounds), &theirs, what);
     }
+}
+
+fn compare_ask_text(table: &[u8], text: &[u8], what: &str) {
+    let theirs = answer::ask_text(table, text, None);
+    compare_asked(ask_text(table, text, Rounds::Back), &theirs, what);
 }
 
 #[test]
@@ -94,6 +105,33 @@ fn damaged_files() {
         }
     }
     assert!(seen[1..].iter().all(|&n| n > 0), "{seen:?}");
+}
+
+#[test]
+fn damaged_texts() {
+    let mut seen = [0; 13];
+    for seed in 0..6000 {
+        let mut random = Random::new(30_000 + seed);
+        let c = case(&mut random, Shape::Tiny);
+        let table = write::table(&c.table);
+        let text = texts::damaged(&mut random, &c.table);
+        compare_ask_text(&table, &text, &seed.to_string());
+        let refused = answer::ask_text(&table, &text, None).err();
+        seen[refused.map_or(0, |r| r.number as usize)] += 1;
+    }
+    for number in [0, 1, 5, 11, 12] {
+        assert!(seen[number] > 100, "{seen:?}");
+    }
+}
+
+#[test]
+fn timed_texts() {
+    let table = sample().table;
+    for t in sample_texts().iter().chain(&long_texts()) {
+        compare_ask_text(&table, &t.text, &t.name);
+        let refused = answer::ask_text(&table, &t.text, None).err();
+        assert_eq!(refused.map(|r| r.number), t.refused, "{}", t.name);
+    }
 }
 
 fn both(c: &Case) {

@@ -5,7 +5,8 @@ use crate::graph::{method_for, Graph, Method};
 use crate::paths::{first_path_to, first_paths, least_steps, NEVER};
 use crate::read::{read_question, read_table, read_target, Refusal};
 use crate::run::{along, flat, Moment};
-use crate::table::{Table, Target};
+use crate::table::{Row, Table, Target};
+use crate::text::read_text;
 
 pub const CONFIGURATIONS: usize = 10_784;
 pub const WORDS: usize = 337;
@@ -111,19 +112,30 @@ pub fn reach_table(table: &Table, target: &Target, method: Option<Method>) -> Re
 pub fn ask(table: &[u8], question: &[u8], method: Option<Method>) -> Result<Asked, Refusal> {
     let table = read_table(table)?;
     let rows = read_question(&table, question)?;
-    let graph = Graph::new(&table, method.unwrap_or_else(|| method_for(&table)));
-    let sets = Judge::new(&table, &graph).rows(&rows);
+    Ok(ask_table(&table, &rows, method))
+}
+
+/// The same of a question as a line of text.
+pub fn ask_text(table: &[u8], text: &[u8], method: Option<Method>) -> Result<Asked, Refusal> {
+    let table = read_table(table)?;
+    let rows = read_text(&table, text)?;
+    Ok(ask_table(&table, &rows, method))
+}
+
+pub fn ask_table(table: &Table, rows: &[Row], method: Option<Method>) -> Asked {
+    let graph = Graph::new(table, method.unwrap_or_else(|| method_for(table)));
+    let sets = Judge::new(table, &graph).rows(rows);
     let sets: Vec<Vec<bool>> = sets.iter().map(|s| graph.per_configuration(s)).collect();
-    let starts = graph.per_configuration(&graph.select(&table, table.start, &table.start_conditions));
+    let starts = graph.per_configuration(&graph.select(table, table.start, &table.start_conditions));
     let last = &sets[sets.len() - 1];
     let failing = (0..graph.configurations).find(|&c| starts[c] && !last[c]);
     let mut all: Vec<u32> = sets.iter().flat_map(|s| words(s)).collect();
     all.resize(ROWS * WORDS, 0);
     let class = failing.map(|c| c % graph.classes.count());
-    Ok(Asked {
+    Asked {
         yes: failing.is_none(),
         class: class.unwrap_or(0),
         contents: class.map_or(vec![], |k| graph.classes.contents(k)[..table.registers].to_vec()),
         rows: all,
-    })
+    }
 }

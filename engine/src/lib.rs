@@ -16,5 +16,7 @@ pub mod read;
 pub mod replay;
 pub mod run;
 pub mod table;
+pub mod text;
+pub mod texts;
 pub mod trials;
 pub mod write;

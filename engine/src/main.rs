@@ -1,6 +1,6 @@
 //! The engine's commands (see README.md).
 
-use engine::answer::{ask, reach};
+use engine::answer::{ask, ask_text, reach};
 use engine::cases::{bytes, expect, generate, numbers};
 use engine::class::{class_of_contents, class_of_matrix, contents_of_class, matrix_of_class, Classes};
 use engine::graph::{method_for, Graph, Method};
@@ -17,6 +17,7 @@ use std::process::ExitCode;
 const USAGE: &str = "usage:
   engine reach TABLE TARGET [--full | --digest] [--pool | --class]
   engine ask TABLE QUESTION [--full | --digest] [--pool | --class]
+  engine ask_text TABLE TEXT [--full | --digest] [--pool | --class]
   engine replay TABLE RUNFILE [--full]
   engine successors TABLE CONFIGURATION [--pool | --class]
   engine lists REGISTERS CONSTANTS
@@ -123,6 +124,10 @@ fn answer() -> Option<Vec<u8>> {
         ["ask", table, question] => asked(
             o.form,
             &ask(&bytes(Path::new(table)), &bytes(Path::new(question)), o.method),
+        ),
+        ["ask_text", table, text] => asked(
+            o.form,
+            &ask_text(&bytes(Path::new(table)), &bytes(Path::new(text)), o.method),
         ),
         ["replay", table, list] => replayed(o.form, &replay(&bytes(Path::new(table)), &numbers(Path::new(list))?)),
         ["successors", table, configuration] => successors(Path::new(table), configuration.parse().ok()?, o.method),

@@ -4,6 +4,7 @@
 use engine::cases::bytes;
 use engine::print::fields;
 use engine::read::{read_question, read_table, read_target, Refusal};
+use engine::text::read_text;
 use engine::trials::{self, SEED};
 use std::collections::BTreeMap;
 use std::fs;
@@ -70,6 +71,9 @@ fn judged(data: &Path, case: &str) -> [usize; 4] {
     }
     if part("question").exists() {
         return line(5, read_question(&table, &bytes(&part("question"))).err());
+    }
+    if part("text").exists() {
+        return line(9, read_text(&table, &bytes(&part("text"))).err());
     }
     line(1, None)
 }

@@ -1,4 +1,4 @@
-/* The sample and damaged files through both functions, each in a thread with no more stack than the header asks for. */
+/* The sample and damaged files through the three functions, each in a thread with no more stack than the header asks for. */
 #include <maceplateau.h>
 #include <pthread.h>
 #include <stdio.h>
@@ -54,7 +54,7 @@ static void expect(const char *what, uint32_t reply, function *f, const void *ta
                    size_t other_length)
 {
     struct call c = {f, table, other, table_length, other_length, 0};
-    size_t stack = f == maceplateau_ask ? MACEPLATEAU_ASK_STACK : MACEPLATEAU_REACH_STACK;
+    size_t stack = f == maceplateau_reach ? MACEPLATEAU_REACH_STACK : MACEPLATEAU_ASK_STACK;
     pthread_attr_t attributes;
     pthread_t thread;
     if (pthread_attr_init(&attributes) || pthread_attr_setstacksize(&attributes, stack)
@@ -79,6 +79,11 @@ static void ask(const char *what, uint32_t reply, const char *table, const char 
     expect(what, reply, maceplateau_ask, table, strlen(table), question, strlen(question));
 }
 
+static void ask_text(const char *what, uint32_t reply, const char *table, const char *text)
+{
+    expect(what, reply, maceplateau_ask_text, table, strlen(table), text, strlen(text));
+}
+
 int main(void)
 {
     char damaged[sizeof sample], sized[sizeof sample];
@@ -88,6 +93,8 @@ int main(void)
     memcpy(sized, sample, sizeof sample);
     sized[11] = '6';
     memset(overlong, ' ', sizeof overlong);
+    char nots[402];
+    memset(nots, '!', sizeof nots);
 
     reach("place 3", 1, sample, place_3);
     reach("place 3 with registers equal", 0, sample, registers_equal);
@@ -107,5 +114,22 @@ int main(void)
     reach("six registers", 103, sized, place_3);
     reach("place 4 of 3", 105, sample, place_4);
     ask("a row that names itself", 108, sample, names_itself);
+
+    ask_text("nobody revises her own segment", 1, sample, "AG!(L3&r1=r2)");
+    ask_text("EG of register 1 = register 1, as text", 0, sample, "EGr1=r1");
+    ask_text("E U", 1, sample, "E(r2=c1UL3)");
+    ask_text("a text, a damaged table", 102, damaged, "AFL3");
+    ask_text("a text, six registers", 103, sized, "x");
+    ask_text("place 4 of 3, as text", 105, sample, "AFL4");
+    ask_text("an empty text", 111, sample, "");
+    ask_text("a line end behind a text", 111, sample, "AFL3\n");
+    ask_text("brackets around one question", 111, sample, "(L3)");
+    ask_text("33 rows, as text", 112, sample, "!!!!!!!!!!!!!!!!!!!!!!!!!!!!!!!!L3");
+    expect("a text, no pointers", 102, maceplateau_ask_text, NULL, 0, NULL, 0);
+    expect("a text of no bytes, no pointer", 111, maceplateau_ask_text, sample, strlen(sample), NULL, 0);
+    expect("400 times !", 111, maceplateau_ask_text, sample, strlen(sample), nots, 400);
+    expect("401 times !", 101, maceplateau_ask_text, sample, strlen(sample), nots, 401);
+    memcpy(nots + 398, "L3", 2);
+    expect("a question of 400 bytes", 112, maceplateau_ask_text, sample, strlen(sample), nots, 400);
     return differences != 0;
 }

@@ -1,5 +1,5 @@
-/* How many bytes of stack a call needs. Arguments: reach or ask, a table's file, the other file. Prints the call, the reply and the
- * bytes; exit 1 where they are more than the header says.
+/* How many bytes of stack a call needs. Arguments: reach, ask or ask_text, a table's file, the other file. Prints the call, the files,
+ * the reply and the bytes; exit 1 where they are more than the header says.
  *
  * The call runs in a thread whose stack is filled with one byte; whatever it changed below the caller's frame is its own. */
 #define _GNU_SOURCE
@@ -48,12 +48,12 @@ static void *run(void *argument)
 int main(int count, char **words)
 {
     if (count != 4) {
-        fprintf(stderr, "usage: stack reach|ask TABLE OTHER\n");
+        fprintf(stderr, "usage: stack reach|ask|ask_text TABLE OTHER\n");
         return 2;
     }
-    int asks = strcmp(words[1], "ask") == 0;
-    size_t stated = asks ? MACEPLATEAU_ASK_STACK : MACEPLATEAU_REACH_STACK;
-    struct call c = {.function = asks ? maceplateau_ask : maceplateau_reach};
+    int reaches = strcmp(words[1], "reach") == 0, by_text = strcmp(words[1], "ask_text") == 0;
+    size_t stated = reaches ? MACEPLATEAU_REACH_STACK : MACEPLATEAU_ASK_STACK;
+    struct call c = {.function = reaches ? maceplateau_reach : by_text ? maceplateau_ask_text : maceplateau_ask};
     c.first = read_file(words[2], &c.first_length);
     c.second = read_file(words[3], &c.second_length);
     uint8_t *stack = mmap(NULL, STACK, PROT_READ | PROT_WRITE, MAP_PRIVATE | MAP_ANONYMOUS | MAP_STACK, -1, 0);
@@ -69,6 +69,6 @@ int main(int count, char **words)
     while (*lowest == FILL)
         lowest++;
     size_t bytes = (size_t)(c.top - lowest);
-    printf("%s %s: reply %u, %zu bytes of stack\n", words[1], words[2], (unsigned)c.reply, bytes);
+    printf("%s %s %s: reply %u, %zu bytes of stack\n", words[1], words[2], words[3], (unsigned)c.reply, bytes);
     return bytes > stated;
 }

@@ -8,6 +8,8 @@ use engine::print::fields;
 use engine::random::Random;
 use engine::read::Refusal;
 use engine::table::Row;
+use engine::text::rows;
+use engine::texts;
 use engine::trials::sample_table;
 use engine::write;
 
@@ -31,6 +33,13 @@ fn compare(table: &[u8], target: &[u8], question: &[u8], what: &str) -> [u32; 2]
     assert_eq!(calls::reach(table, target), reached, "reach, {what}");
     assert_eq!(calls::ask(table, question), asked, "ask, {what}");
     [reached, asked]
+}
+
+/// The call by text against the engine; the code.
+fn compare_text(table: &[u8], text: &[u8], what: &str) -> u32 {
+    let asked = code(&answer::ask_text(table, text, None), |a| a.yes);
+    assert_eq!(calls::ask_text(table, text), asked, "ask_text, {what}");
+    asked
 }
 
 struct Files {
@@ -199,6 +208,110 @@ fn wrong_bytes() {
     });
 }
 
+/// Questions as text that are read, of up to 32 rows; their rows by the other call give the same.
+#[test]
+fn valid_texts() {
+    on_stack(|| {
+        let mut seen = [0; 2];
+        for (shape, count) in [
+            (Shape::Tiny, 2000),
+            (Shape::Small, 400),
+            (Shape::Large, 30),
+            (Shape::Full, 4),
+        ] {
+            for seed in 0..count {
+                let mut random = Random::new(110_000 + seed);
+                let c = case(&mut random, shape);
+                let table = write::table(&c.table);
+                let tree = texts::good(&mut random, &c.table);
+                let asked = compare_text(&table, tree.text().as_bytes(), &format!("{shape:?} {seed}"));
+                assert_eq!(
+                    calls::ask(&table, &write::question(&tree.rows())),
+                    asked,
+                    "{}",
+                    tree.text()
+                );
+                seen[asked as usize] += 1;
+            }
+        }
+        assert!(seen.iter().all(|&n| n > 100), "{seen:?}");
+    });
+}
+
+#[test]
+fn damaged_texts() {
+    on_stack(|| {
+        let mut seen = [0; 13];
+        for seed in 0..20_000 {
+            let mut random = Random::new(130_000 + seed);
+            let c = case(&mut random, Shape::Tiny);
+            let text = texts::damaged(&mut random, &c.table);
+            let mut table = write::table(&c.table);
+            if seed % 20 == 0 {
+                table = mutate(&mut random, &table);
+            }
+            let asked = compare_text(&table, &text, &format!("{seed}"));
+            if asked >= 100 {
+                seen[asked as usize - 100] += 1;
+            }
+        }
+        for number in [1, 2, 5, 7, 11, 12] {
+            assert!(seen[number] > 5, "{seen:?}");
+        }
+    });
+}
+
+/// Every string of at most four bytes over a small alphabet.
+#[test]
+fn short_texts() {
+    on_stack(|| {
+        let table = sample_table();
+        let mut level: Vec<Vec<u8>> = vec![vec![]];
+        for _ in 0..=4 {
+            for text in &level {
+                // Most are turned back: the engine's answer only where it is needed.
+                if rows(text).is_ok() {
+                    compare_text(&table, text, &format!("{text:?}"));
+                } else {
+                    assert_eq!(calls::ask_text(&table, text), 111, "{text:?}");
+                }
+            }
+            level = level
+                .iter()
+                .flat_map(|w| b"Lrc10=!()&UEXA".iter().map(move |&b| [&w[..], &[b]].concat()))
+                .collect();
+        }
+    });
+}
+
+/// Texts at the limit of bytes and beyond, nested as deep as they can be, and every byte of one replaced.
+#[test]
+fn long_texts() {
+    on_stack(|| {
+        let table = sample_table();
+        for seed in 0..400 {
+            let mut random = Random::new(170_000 + seed);
+            let bytes = *random.pick(&[31, 32, 33, 34, 255, 256, 257, 399, 400, 401, 402]);
+            let text = texts::nested(&mut random, bytes);
+            compare_text(&table, &text, &format!("{bytes} bytes"));
+            compare_text(&table, &text[..bytes - 1], &format!("{bytes} bytes without the last"));
+        }
+        for bytes in [399, 400, 401, 65_536, 65_540, 1_000_000] {
+            for byte in [b'!', b'(', b'E', b'L', b'1', 0, 10, 255] {
+                compare_text(&table, &vec![byte; bytes], &format!("{bytes} times {byte}"));
+            }
+        }
+        let text = b"E((L1&r1=r2)U(AG!r2=c1>EF(L1|L3)))";
+        for i in 0..text.len() {
+            for byte in 0..=255 {
+                let mut other = text.to_vec();
+                other[i] = byte;
+                compare_text(&table, &other, &format!("byte {i} is {byte}"));
+            }
+        }
+    });
+}
+
 /// The longest run that the counters give, and 10,784 rounds.
 #[test]
 fn long_work() {
@@ -219,17 +332,21 @@ fn long_work() {
 fn only_read() {
     let work = || {
         for seed in 0..200 {
-            let f = files(&mut Random::new(90_000 + seed), Shape::Tiny);
-            // The three files side by side at an odd place.
+            let mut random = Random::new(90_000 + seed);
+            let f = files(&mut random, Shape::Tiny);
+            let text = texts::nested(&mut random, 20 + seed as usize);
+            // The four files side by side at an odd place.
             let mut all = vec![b'7'; 3];
             all.extend(&f.table);
             all.extend(&f.target);
             all.extend(&f.question);
+            all.extend(&text);
             all.push(b'7');
             let before = all.clone();
             let (t, g) = (3 + f.table.len(), 3 + f.table.len() + f.target.len());
             let q = g + f.question.len();
             compare(&all[3..t], &all[t..g], &all[g..q], &format!("{seed}"));
+            compare_text(&all[3..t], &all[q..q + text.len()], &format!("{seed}"));
             assert_eq!(all, before);
         }
     };

@@ -1,4 +1,4 @@
-// The two functions for an editor written in C: bytes and lengths in, one number out, over memory of the checker's own.
+// The functions for an editor written in C: bytes and lengths in, one number out, over memory of the checker's own.
 ghost use mathlib.Core.Path.{_≡_};
 ghost use Prim.Native.Nat.{_≤_};
 ghost use lib.Dec.{T};
@@ -7,9 +7,11 @@ ghost use Rattle.claims.specs.Files.{reachBuffers, searchRoom, targetFiles, que
 ghost use Rattle.claims.specs.ReachReply.{reachReply};
 ghost use Rattle.claims.specs.AskReply.{askReply};
 ghost use Rattle.claims.specs.Editor.{reachCode, askCode, ReachCodeMeans, AskCodeMeans};
+ghost use Rattle.claims.specs.declared.Notation.the-variants.{Rows, Text};
 use crate::goal::reach;
-use crate::question::ask;
+use crate::question::ask_in;
 use claims::Asking;
+use claims::Notation;
 use claims::Reaching;
 
 // Whether runs of the table reach the target, over lent memory.
@@ -36,13 +38,15 @@ fn reach_over(
     }
 }
 
-// Whether the question holds at every permitted start, over lent memory.
-fn ask_over(table: &[u8], question: &[u8], rows: &mut [u32]) -> u32
+// Whether the question in this notation holds at every permitted start, over lent memory.
+fn ask_over(notation: Notation, table: &[u8], question: &[u8], rows: &mut [u32]) -> u32
     requires { ⌜ 10784 ≤ length (now rows) ⌝ }
-    ensures { λ r. ⌜ r ≡ askCode (askReply (questionFiles (now (table .entry)) (now (question .entry)))) ⌝ }
+    ensures { λ r.
+        ⌜ (r ≡ askCode (askReply (questionFiles notation (now (table .entry)) (now (question .entry)))))
+        × AskCodeMeans notation (now (table .entry)) (now (question .entry)) r ⌝ }
 {
     let mut contents = [0u32; 5];
-    let reply = ask(table, question, rows, &mut contents);
+    let reply = ask_in(notation, table, question, rows, &mut contents);
     match reply {
         Asking::Yes => 1,
         Asking::No {
@@ -76,13 +80,24 @@ pub extern "C" fn maceplateau_reach(table: &[u8], target: &[u8]) -> u32
     )
 }
 
-// Table and question: 1 yes, 0 no, or 100 plus the refusal's number.
+// Table and question, a file of rows: 1 yes, 0 no, or 100 plus the refusal's number.
 #[no_mangle]
 pub extern "C" fn maceplateau_ask(table: &[u8], question: &[u8]) -> u32
     ensures { λ r.
-        ⌜ (r ≡ askCode (askReply (questionFiles (now (table .entry)) (now (question .entry)))))
-        × AskCodeMeans (now (table .entry)) (now (question .entry)) r ⌝ }
+        ⌜ (r ≡ askCode (askReply (questionFiles Rows (now (table .entry)) (now (question .entry)))))
+        × AskCodeMeans Rows (now (table .entry)) (now (question .entry)) r ⌝ }
 {
     let mut rows = [0u32; 10784];
-    ask_over(table, question, &mut rows)
+    ask_over(Notation::Rows, table, question, &mut rows)
+}
+
+// The same for a question that is a line of text.
+#[no_mangle]
+pub extern "C" fn maceplateau_ask_text(table: &[u8], text: &[u8]) -> u32
+    ensures { λ r.
+        ⌜ (r ≡ askCode (askReply (questionFiles Text (now (table .entry)) (now (text .entry)))))
+        × AskCodeMeans Text (now (table .entry)) (now (text .entry)) r ⌝ }
+{
+    let mut rows = [0u32; 10784];
+    ask_over(Notation::Text, table, text, &mut rows)
 }

@@ -1,4 +1,4 @@
-// The call on a table and a question: its rows over all configurations, and whether it holds at every permitted start.
+// The calls on a table and a question, in either notation: its rows over all configurations, and whether it holds at every permitted start.
 ghost use mathlib.Core.List.{List};
 ghost use mathlib.Core.Option.{Option};
 ghost use mathlib.Core.Path.{_≡_};
@@ -21,8 +21,10 @@ ghost use Rattle.claims.specs.Files.{WithQuestion, questionTo, AskBuffers, askB
 ghost use Rattle.claims.specs.AskReply.{askedReply, askedContents, askReply, askTold, askRows, askContents};
 ghost use Rattle.claims.specs.AnswerNumbers.{askNumbers};
 ghost use Rattle.claims.specs.Demand.{AskMeans};
+ghost use Rattle.claims.specs.declared.Notation.the-variants.{Rows, Text};
 use crate::given::classes_in;
 use claims::Asking;
+use claims::Notation;
 use refusals::Refusal;
 
 // Asks a question of an opened table, over memory for its step rows.
@@ -85,31 +87,45 @@ fn answer(
     answer_over(&mut steps, form, cat, question, count, rows, contents)
 }
 
-// Reads a question to an opened table; a refusal leaves the rows as they are.
-fn read_rows(form: &[u32], question: &[u8], rows: &mut [u32; 96]) -> questions::Reply
+// Reads a question in this notation to an opened table; a refusal leaves the rows as they are.
+fn read_rows(
+    form: &[u32],
+    notation: Notation,
+    question: &[u8],
+    rows: &mut [u32; 96],
+) -> questions::Reply
     requires { ⌜ Readable (now form) ⌝ }
     ensures { λ r.
         let a : Automaton = automatonOf (now (form .entry)) in
-        ⌜ (r ≡ replyOf (questionTo a (now (question .entry))))
-        × (now (rows .exit) ≡ formOf (questionTo a (now (question .entry))) (now (rows .entry))) ⌝ }
+        ⌜ (r ≡ replyOf (questionTo notation a (now (question .entry))))
+        × (now (rows .exit) ≡ formOf (questionTo notation a (now (question .entry))) (now (rows .entry))) ⌝ }
 {
     let registers = forms::registers(form) as u32;
     let constants = forms::constants(form) as u32;
     let locations = forms::locations(form) as u32;
-    questions::read_question(registers, constants, locations, question, rows)
+    match notation {
+        Notation::Rows => questions::read_question(registers, constants, locations, question, rows),
+        Notation::Text => texts::read_text(registers, constants, locations, question, rows),
+    }
 }
 
-// Whether a question holds at every permitted start of a table. Refusals write nothing.
-pub fn ask(table: &[u8], question: &[u8], rows: &mut [u32], contents: &mut [u32; 5]) -> Asking
+// Whether a question in this notation holds at every permitted start of a table. Refusals write nothing.
+pub(crate) fn ask_in(
+    notation: Notation,
+    table: &[u8],
+    question: &[u8],
+    rows: &mut [u32],
+    contents: &mut [u32; 5],
+) -> Asking
     ensures { λ r.
         let before : AskBuffers = askBuffers (now (rows .entry)) (now (contents .entry)) in
         let after : AskBuffers = askBuffers (now (rows .exit)) (now (contents .exit)) in
-        let f : Judged WithQuestion = askFiles before (now (table .entry)) (now (question .entry)) in
+        let f : Judged WithQuestion = askFiles notation before (now (table .entry)) (now (question .entry)) in
         ⌜ (r ≡ askReply f)
         × (askNumbers r (after .contents) ≡ askTold f)
         × (after .rows ≡ askRows f (before .rows))
         × (after .contents ≡ askContents f (before .contents))
-        × AskMeans (now (table .entry)) (now (question .entry)) r before after ⌝ }
+        × AskMeans notation (now (table .entry)) (now (question .entry)) r before after ⌝ }
 {
     if rows.len() < 10784 {
         return Asking::Refused(Refusal {
@@ -125,7 +141,7 @@ pub fn ask(table: &[u8], question: &[u8], rows: &mut [u32], contents: &mut [u32;
         reader::Reply::Refused(r) => Asking::Refused(r),
         reader::Reply::Accepted => {
             let mut lines = [0u32; 96];
-            let reply = read_rows(&form, question, &mut lines);
+            let reply = read_rows(&form, notation, question, &mut lines);
             match reply {
                 questions::Reply::Refused(r) => Asking::Refused(r),
                 questions::Reply::Accepted(count) => {
@@ -134,4 +150,34 @@ pub fn ask(table: &[u8], question: &[u8], rows: &mut [u32], contents: &mut [u32;
             }
         }
     }
+}
+
+// The call on a question that is a file of rows.
+pub fn ask(table: &[u8], question: &[u8], rows: &mut [u32], contents: &mut [u32; 5]) -> Asking
+    ensures { λ r.
+        let before : AskBuffers = askBuffers (now (rows .entry)) (now (contents .entry)) in
+        let after : AskBuffers = askBuffers (now (rows .exit)) (now (contents .exit)) in
+        let f : Judged WithQuestion = askFiles Rows before (now (table .entry)) (now (question .entry)) in
+        ⌜ (r ≡ askReply f)
+        × (askNumbers r (after .contents) ≡ askTold f)
+        × (after .rows ≡ askRows f (before .rows))
+        × (after .contents ≡ askContents f (before .contents))
+        × AskMeans Rows (now (table .entry)) (now (question .entry)) r before after ⌝ }
+{
+    ask_in(Notation::Rows, table, question, rows, contents)
+}
+
+// The call on a question that is a line of text.
+pub fn ask_text(table: &[u8], text: &[u8], rows: &mut [u32], contents: &mut [u32; 5]) -> Asking
+    ensures { λ r.
+        let before : AskBuffers = askBuffers (now (rows .entry)) (now (contents .entry)) in
+        let after : AskBuffers = askBuffers (now (rows .exit)) (now (contents .exit)) in
+        let f : Judged WithQuestion = askFiles Text before (now (table .entry)) (now (text .entry)) in
+        ⌜ (r ≡ askReply f)
+        × (askNumbers r (after .contents) ≡ askTold f)
+        × (after .rows ≡ askRows f (before .rows))
+        × (after .contents ≡ askContents f (before .contents))
+        × AskMeans Text (now (table .entry)) (now (text .entry)) r before after ⌝ }
+{
+    ask_in(Notation::Text, table, text, rows, contents)
 }

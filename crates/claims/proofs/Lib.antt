@@ -6,6 +6,7 @@ pub mod RowsTold
 pub mod Claims
 pub mod StepsBetween
 pub mod One
+pub mod Notations
 pub mod Meaning
 pub mod Told
 pub mod ReplyNumbers

@@ -5,6 +5,7 @@ use mathlib.Core.List.{List, [], _∷_, flatMap, zipWith, List·Memᴰ, List·Me
 use mathlib.Core.Logic.{⊎-elim}
 use mathlib.Core.Option.{none, some}
 use mathlib.Core.Path.{_≡_, refl, ap, _∙_, subst, subst⁻¹}
+use native.Mathlib.Omega.{arith}
 use lib.Dec.{T}
 use lib.ListN.{length}
 use Rattle.graphs.specs.Search.{Walk}
@@ -17,6 +18,11 @@ use Rattle.automata.specs.ConfigurationGraph.{rows, starts}
 use Rattle.automata.specs.WellFormed.{limited}
 use Rattle.automata.specs.Answers.{nearestTo, failing}
 use Rattle.automata.specs.Examples.{sample, loose, delivered, deliveredByOne}
+use Rattle.automata.specs.Questions.Atom.{at, equal}
+use Rattle.grammar.specs.Grammar.{Question, TextFile, formulaOf, rowsFrom, digits}
+use Rattle.grammar.specs.Grammar.Temporal.{G}
+use Rattle.grammar.specs.Grammar.Join.{conjunction}
+use Rattle.grammar.specs.Grammar.Question.{basic, negated, A, joined}
 use Rattle.moves.specs.PathMoves.{walkContents, walkMoves}
 use Rattle.moves.proofs.Limits.{limited-roomy}
 use Rattle.moves.specs.Taken.{Taken}
@@ -32,8 +38,9 @@ use Rattle.writing.proofs.Sample.{sample-says, loose-says, delivered-says, deli
 use Rattle.claims.specs.Files.{targetFiles}
 use Rattle.claims.specs.ReachReply.{foundReply, reachReply}
 use Rattle.claims.specs.AskReply.{askedReply}
+use Rattle.claims.specs.declared.Notation.the-variants.{Rows as inRows, Text as inText}
 use Rattle.claims.specs.declared.Reaching.the-variants.{Never, Reached}
-use Rattle.claims.specs.SampleReplies.{Sample, Shows, samples}
+use Rattle.claims.specs.SampleReplies.{Sample, Shows, neverByOneText, samples}
 use Rattle.claims.proofs.Meaning.{reach-reply, ask-reply}
 
 -- as many configurations are reached as walks are found
@@ -57,6 +64,18 @@ inevitable-holds : failing sample (question inevitableRows) ≡ none
 unfolding flatMap zipWith
 inevitable-holds = refl
 
+-- the question of the text
+neverByOne : Question
+neverByOne = A G (negated (joined conjunction (basic (at 3)) (basic (equal 1 2))))
+
+never-by-one-says : TextFile sample neverByOneText neverByOne
+unfolding digits neverByOne
+never-by-one-says = record { written = (tt, refl); short = omega arith; fits = tt }
+
+never-by-one-holds : failing sample (formulaOf neverByOne) ≡ none
+unfolding flatMap zipWith neverByOne
+never-by-one-holds = refl
+
 -- the run along the walk that is found
 shown : (s g : List ℕ) (a : Automaton) (x : Target) (w : Walk) (n count : ℕ) (v : List ℕ) (ms : List Move) → TableFile s a → TargetFile a g x → nearestTo a x ≡ some w
     → foundReply a (some w) ≡ Reached n count → walkContents a w ≡ v → walkMoves 15 a w ≡ ms
@@ -72,6 +91,7 @@ samples-hold c m =
     ⊎-elim (λ e. subst⁻¹ Shows e (shown _ _ sample delivered walk 2 3 _ _ sample-says delivered-says sample-walk (ap (Reached 2) sample-count) refl refl))
     (λ m. ⊎-elim (λ e. subst⁻¹ Shows e (reach-reply _ _ sample deliveredByOne sample-says delivered-by-one-says ∙ ap (foundReply sample) unreached ∙ ap Never sample-count))
     (λ m. ⊎-elim (λ e. subst⁻¹ Shows e (shown _ _ loose deliveredByOne looseWalk 2 5 _ _ loose-says loose-by-one-says loose-walk (ap (Reached 2) (found-count loose tt _ loose-found)) refl refl))
-    (λ m. ⊎-elim (λ e. subst⁻¹ Shows e (ask-reply _ _ sample alwaysRows sample-says always-says ∙ ap (askedReply sample) always-fails))
-    (λ m. ⊎-elim (λ e. subst⁻¹ Shows e (ask-reply _ _ sample inevitableRows sample-says inevitable-says ∙ ap (askedReply sample) inevitable-holds))
-    (λ m. absurd (List·Memᴰ·not-nil m)) (List·Memᴰ·cases-cons m)) (List·Memᴰ·cases-cons m)) (List·Memᴰ·cases-cons m)) (List·Memᴰ·cases-cons m)) (List·Memᴰ·cases-cons m)
+    (λ m. ⊎-elim (λ e. subst⁻¹ Shows e (ask-reply inRows _ _ sample _ alwaysRows sample-says (always-says, refl) ∙ ap (askedReply sample) always-fails))
+    (λ m. ⊎-elim (λ e. subst⁻¹ Shows e (ask-reply inRows _ _ sample _ inevitableRows sample-says (inevitable-says, refl) ∙ ap (askedReply sample) inevitable-holds))
+    (λ m. ⊎-elim (λ e. subst⁻¹ Shows e (ask-reply inText _ _ sample (formulaOf neverByOne) (rowsFrom 0 neverByOne) sample-says (neverByOne, never-by-one-says, refl, refl) ∙ ap (askedReply sample) never-by-one-holds))
+    (λ m. absurd (List·Memᴰ·not-nil m)) (List·Memᴰ·cases-cons m)) (List·Memᴰ·cases-cons m)) (List·Memᴰ·cases-cons m)) (List·Memᴰ·cases-cons m)) (List·Memᴰ·cases-cons m)) (List·Memᴰ·cases-cons m)

@@ -8,8 +8,11 @@ use lib.Dec.{T}
 use Rattle.automata.specs.Automaton.{Automaton}
 use Rattle.automata.specs.Runs.{Move, Target, Reaches, permitted, initial}
 use Rattle.automata.specs.Runs as meaning
-use Rattle.automata.specs.Questions.{Row, Holds, HoldsAtStarts, question}
-use Rattle.writing.specs.Said.{TableFile, TargetFile, QuestionFile}
+use Rattle.graphs.specs.Formulas.{Formula}
+use Rattle.automata.specs.Questions.{Atom, Row, Holds, HoldsAtStarts}
+use Rattle.writing.specs.Said.{TableFile, TargetFile}
+use Rattle.claims.specs.Demand.{QuestionSaid}
+use Rattle.claims.specs.declared.Notation.{Notation}
 use Rattle.claims.specs.declared.Reaching.{Reaching}
 use Rattle.claims.specs.declared.Reaching.the-variants.{Never, Reached, Refused}
 use Rattle.claims.specs.declared.Asking.{Asking}
@@ -33,10 +36,10 @@ pub record ReachCodeMeans (s g : List ℕ) (n : ℕ) : Type 0 where
   pub reached : (a : Automaton) (x : Target) → TableFile s a → TargetFile a g x → (n ≡ 1) ↔ ((v : List ℕ) × (ms : List Move) × Reaches a x v ms)
   pub refused : (100 ≤ n) ↔ ((a : Automaton) (x : Target) → TableFile s a → TargetFile a g x → ⊥)
 
--- the same for the bytes q of a question: 0 exactly for no, 1 exactly for yes
+-- the same for the bytes q of a question in the notation w: 0 exactly for no, 1 exactly for yes
 
-pub record AskCodeMeans (s q : List ℕ) (n : ℕ) : Type 0 where
-  pub no : (a : Automaton) (rs : List Row) → TableFile s a → QuestionFile a q rs
-      → (n ≡ 0) ↔ ((v : List ℕ) × T (permitted a v) × (Holds a (question rs) (initial a v) → ⊥))
-  pub yes : (a : Automaton) (rs : List Row) → TableFile s a → QuestionFile a q rs → (n ≡ 1) ↔ HoldsAtStarts a (question rs)
-  pub refused : (100 ≤ n) ↔ ((a : Automaton) (rs : List Row) → TableFile s a → QuestionFile a q rs → ⊥)
+pub record AskCodeMeans (w : Notation) (s q : List ℕ) (n : ℕ) : Type 0 where
+  pub no : (a : Automaton) (f : Formula Atom) (rs : List Row) → TableFile s a → QuestionSaid w a q f rs
+      → (n ≡ 0) ↔ ((v : List ℕ) × T (permitted a v) × (Holds a f (initial a v) → ⊥))
+  pub yes : (a : Automaton) (f : Formula Atom) (rs : List Row) → TableFile s a → QuestionSaid w a q f rs → (n ≡ 1) ↔ HoldsAtStarts a f
+  pub refused : (100 ≤ n) ↔ ((a : Automaton) (f : Formula Atom) (rs : List Row) → TableFile s a → QuestionSaid w a q f rs → ⊥)

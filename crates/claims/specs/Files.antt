@@ -12,7 +12,10 @@ use Rattle.automata.specs.WellFormed.{constantCount}
 use Rattle.forms.specs.FormAutomaton.{automatonOf}
 use Rattle.reader.specs.Table.{readTarget}
 use Rattle.questions.specs.Question.{Rows, readQuestion}
+use Rattle.texts.specs.Texts.{readText}
 use Rattle.opening.specs.Opening.{openTable}
+use Rattle.claims.specs.declared.Notation.{Notation}
+use Rattle.claims.specs.declared.Notation.the-variants.{Rows as inRows, Text as inText}
 
 -- a table's form with the form of a target
 pub record WithTarget : Type 0 where
@@ -34,13 +37,14 @@ withQuestion t q = record { table = t; rows = q }
 abbrev pub targetFiles : List ℕ → List ℕ → Judged WithTarget
 targetFiles s g = openTable s then (λ t. readTarget t g then (λ u. accepted (withTarget t u)))
 
--- a question to an automaton
-abbrev pub questionTo : Automaton → List ℕ → Judged Rows
-questionTo a q = readQuestion (a .registers) (constantCount a) (a .locations) q
+-- a question to an automaton, in each notation
+abbrev pub questionTo : Notation → Automaton → List ℕ → Judged Rows
+questionTo inRows a q = readQuestion (a .registers) (constantCount a) (a .locations) q
+questionTo inText a q = readText (a .registers) (constantCount a) (a .locations) q
 
 -- a table and then its question
-abbrev pub questionFiles : List ℕ → List ℕ → Judged WithQuestion
-questionFiles s q = openTable s then (λ t. questionTo (automatonOf t) q then (λ r. accepted (withQuestion t r)))
+abbrev pub questionFiles : Notation → List ℕ → List ℕ → Judged WithQuestion
+questionFiles w s q = openTable s then (λ t. questionTo w (automatonOf t) q then (λ r. accepted (withQuestion t r)))
 
 -- The lent buffers
 
@@ -77,5 +81,5 @@ unfoldable pub reachFiles : ReachBuffers → List ℕ → List ℕ → Judged Wi
 reachFiles b s g = require (searchRoom b) (refusal 9 0 0) then (λ ok. targetFiles s g)
 
 -- the same of the call on a question
-unfoldable pub askFiles : AskBuffers → List ℕ → List ℕ → Judged WithQuestion
-askFiles b s q = require (rowsRoom b) (refusal 9 0 0) then (λ ok. questionFiles s q)
+unfoldable pub askFiles : Notation → AskBuffers → List ℕ → List ℕ → Judged WithQuestion
+askFiles w b s q = require (rowsRoom b) (refusal 9 0 0) then (λ ok. questionFiles w s q)

@@ -8,6 +8,12 @@ pub enum Reaching {
     Refused(Refusal),
 }
 
+// How a question is written: a file of rows (document 01), or a line of text (document 02, W1).
+pub enum Notation {
+    Rows,
+    Text,
+}
+
 // The answer to a question: it holds at every permitted start, or not, with the smallest failing start class and the number of its registers.
 pub enum Asking {
     Yes,

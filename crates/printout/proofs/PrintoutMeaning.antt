@@ -35,24 +35,28 @@ use Rattle.forms.specs.FormAutomaton.{automatonOf, targetOf}
 use Rattle.forms.proofs.Forms.{limits}
 use Rattle.reader.specs.Table.{readTarget}
 use Rattle.questions.specs.Question.{Rows}
+use Rattle.questions.proofs.Fits.{Asks}
 use Rattle.opening.specs.Opening.{openTable}
 use Rattle.reach.specs.Buffers.{reachedWords}
 use Rattle.reach.specs.Reaching.{found}
 use Rattle.witness.specs.Printed.{withLines, reachedCount}
 use Rattle.witness.proofs.Finding.{few-steps}
 use Rattle.witness.proofs.RunJudged.{printed-right, never-right}
-use Rattle.writing.specs.Said.{TableFile, TargetFile, QuestionFile}
-use Rattle.writing.proofs.Said.{table-says, says-table, target-says, says-target, question-says, says-question}
+use Rattle.writing.specs.Said.{TableFile, TargetFile}
+use Rattle.writing.proofs.Said.{table-says, says-table, target-says, says-target}
+use Rattle.claims.specs.declared.Notation.{Notation}
 use Rattle.claims.specs.declared.Reaching.{Reaching}
 use Rattle.claims.specs.declared.Asking.{Asking}
 use Rattle.claims.specs.Files.{WithTarget, withTarget, targetFiles, WithQuestion, withQuestion, questionTo, questionFiles, ReachBuffers, searchRoom, reachFiles, AskBuffers, rowsRoom, askFiles}
 use Rattle.claims.specs.ReachReply.{foundReply, reachReply, foundNumbers, reachTold, reachLines}
 use Rattle.claims.specs.AnswerNumbers.{reachNumbers, askNumbers}
 use Rattle.claims.specs.AskReply.{classContents, rowsIn, askedReply, askReply, askedNumbers, askTold, askedContents, askContents}
-use Rattle.claims.specs.Demand.{FailsWith, QuestionAnswer}
+use Rattle.claims.specs.Demand.{QuestionSaid, FailsWith, QuestionAnswer}
 use Rattle.claims.proofs.Rooms.{ample, ample-room, wide, wide-room}
 use Rattle.claims.proofs.Least.{search-right, count-right}
+use Rattle.claims.proofs.Notations.{said-read, read-said, read-form}
 use Rattle.claims.proofs.Claims.{question-right}
+use Rattle.claims.proofs.Meaning.{question-read, question-files, question-turned}
 use Rattle.checker.proofs.Filed.{ask-roomy}
 use Rattle.checker.proofs.Targeted.{reach-roomy}
 use Rattle.printout.specs.Document.{ReachedCount, TargetLines, QuestionLines, ReachPrintout, AskPrintout}
@@ -168,11 +172,12 @@ module _ (s g : List ℕ) where
 -- Questions
 
 -- the bytes say a table and a question, which are read so
-record QuestionRead (s q t : List ℕ) (r : Rows) : Type 0 where
+record QuestionRead (w : Notation) (s q t : List ℕ) (r : Rows) : Type 0 where
   opened : openTable s ≡ accepted t
-  files : questionFiles s q ≡ accepted (withQuestion t r)
+  files : questionFiles w s q ≡ accepted (withQuestion t r)
   said : TableFile s (automatonOf t)
-  asked : QuestionFile (automatonOf t) q (rowsIn (withQuestion t r))
+  asked : QuestionSaid w (automatonOf t) q (question (rowsIn (withQuestion t r))) (rowsIn (withQuestion t r))
+  form : Asks (automatonOf t) (r .form) (r .count)
 
 -- the contents that a no names are those in its slots
 contents-named : (a : Automaton) → T (limited a) → (f : Formula Atom) (k : ℕ) (v : List ℕ) → FailsWith a f k v → padded 5 (classContents a k) ≡ padded 5 v
@@ -196,69 +201,70 @@ class-low : (a : Automaton) (o : Option ℕ) → Each Low (askedNumbers a o ∷ 
 class-low a none l = omega arith
 class-low a (some k) l = l _ (List·Memᴰ·head refl) k (List·Memᴰ·tail (List·Memᴰ·head refl))
 
-module _ (s q : List ℕ) where
-  asking : (t : List ℕ) (r : Rows) → openTable s ≡ accepted t → questionTo (automatonOf t) q ≡ accepted r → QuestionRead s q t r
+module _ (w : Notation) (s q : List ℕ) where
+  asking : (t : List ℕ) (r : Rows) → openTable s ≡ accepted t → questionTo w (automatonOf t) q ≡ accepted r → QuestionRead w s q t r
   asking t r o p =
       record {
         opened = o;
-        files = ap (λ j. j then (λ t. questionTo (automatonOf t) q then (λ r. accepted (withQuestion t r)))) o ∙ ap (λ j. j then (λ r. accepted (withQuestion t r))) p;
+        files = question-files w s q t r o p;
         said = table-says s t o;
-        asked = question-says s t q r o p;
+        asked = read-said s t o w q r p;
+        form = read-form w (automatonOf t) q r p;
       }
 
-  question-said : (a : Automaton) (rs : List Row) → TableFile s a → QuestionFile a q rs → (t : List ℕ) × (r : Rows) × QuestionRead s q t r × (automatonOf t ≡ a) × (rowsIn (withQuestion t r) ≡ rs)
-  question-said a rs file aim =
+  question-said : (a : Automaton) (f : Formula Atom) (rs : List Row) → TableFile s a → QuestionSaid w a q f rs
+      → (t : List ℕ) × (r : Rows) × QuestionRead w s q t r × (automatonOf t ≡ a) × (question (rowsIn (withQuestion t r)) ≡ f)
+  question-said a f rs file aim =
       let (t, o, e) = says-table s a file in
-      let (r, p, d) = says-question s t q rs o (subst⁻¹ (λ a. QuestionFile a q rs) e aim) in
-      (t, r, asking t r o p, e, d)
+      let (r, p, d, k) = said-read s t o w q f rs (subst⁻¹ (λ a. QuestionSaid w a q f rs) e aim) in
+      (t, r, asking t r o p, e, ap question d ∙ sym k)
 
-  question-cases : ((t : List ℕ) × (r : Rows) × QuestionRead s q t r) ⊎ ((r : Refusal) × (questionFiles s q ≡ refused r))
-  question-cases = go (questionFiles s q) refl
+  question-cases : ((t : List ℕ) × (r : Rows) × QuestionRead w s q t r) ⊎ ((r : Refusal) × (questionFiles w s q ≡ refused r))
+  question-cases = go (questionFiles w s q) refl
     where
-      go : (j : Judged WithQuestion) → questionFiles s q ≡ j → ((t : List ℕ) × (r : Rows) × QuestionRead s q t r) ⊎ ((r : Refusal) × (questionFiles s q ≡ refused r))
+      go : (j : Judged WithQuestion) → questionFiles w s q ≡ j → ((t : List ℕ) × (r : Rows) × QuestionRead w s q t r) ⊎ ((r : Refusal) × (questionFiles w s q ≡ refused r))
       go (refused r) e = inr (r, e)
       go (accepted f) e =
-          let (t, o, d) = then-accepted (openTable s) (λ t. questionTo (automatonOf t) q then (λ r. accepted (withQuestion t r))) f e in
-          let (r, p, _) = then-accepted (questionTo (automatonOf t) q) (λ r. accepted (withQuestion t r)) f d in
+          let (t, r, o, p) = question-read w s q f e in
           inl (t, r, asking t r o p)
 
-  module _ (t : List ℕ) (r : Rows) (read : QuestionRead s q t r) where
+  module _ (t : List ℕ) (r : Rows) (read : QuestionRead w s q t r) where
     abbrev a : Automaton
     a = automatonOf t
 
     abbrev f : Formula Atom
     f = question (rowsIn (withQuestion t r))
 
-    told : askTold (questionFiles s q) ≡ askedNumbers a (failing a f)
+    told : askTold (questionFiles w s q) ≡ askedNumbers a (failing a f)
     unfolding askTold
     told = ap askTold (read .files)
 
     line : (b : AskBuffers) → T (rowsRoom b) → QuestionLines a f (askedNumbers a (failing a f) ∷ []) × (askNumbers (askedReply a (failing a f)) (askedContents a (failing a f) (b .contents)) ≡ askedNumbers a (failing a f))
-    line b room = question-line a (read .said .small) f (b .contents) (failing a f) (question-right s t (read .opened) (rowsIn (withQuestion t r)) (read .asked .fits) b room .answer)
+    line b room = question-line a (read .said .small) f (b .contents) (failing a f) (question-right s t (read .opened) (rowsIn (withQuestion t r)) (read .form .fits) b room .answer)
 
     low : Each Low (askedNumbers a (failing a f) ∷ [])
     low = asked-low a (read .said .fits) (read .said .small) (read .said .digits) f
 
-  unasked : (r : Refusal) → questionFiles s q ≡ refused r → askTold (questionFiles s q) ≡ 2 ∷ refusalNumbers r
+  unasked : (r : Refusal) → questionFiles w s q ≡ refused r → askTold (questionFiles w s q) ≡ 2 ∷ refusalNumbers r
   unfolding askTold
   unasked r e = ap askTold e
 
-  pub ask-printout : AskPrintout s q (askPrinted (questionFiles s q))
+  pub ask-printout : AskPrintout w s q (askPrinted (questionFiles w s q))
   ask-printout =
       record {
-        said = λ x rs file aim.
-            let (t, r, read, e, d) = question-said x rs file aim in
-            subst (λ v. QuestionLines x (question rs) (v ∷ [])) (sym (told t r read)) (subst (λ y. QuestionLines y (question rs) (askedNumbers (a t r read) (failing (a t r read) (f t r read)) ∷ [])) e (subst (λ y. QuestionLines (a t r read) (question y) (askedNumbers (a t r read) (failing (a t r read) (f t r read)) ∷ [])) d (line t r read wide wide-room .0)));
-        unsaid = λ none. ⊎-elim (λ (t, r, read). absurd (none (automatonOf t) (rowsIn (withQuestion t r)) (read .said) (read .asked))) (λ (r, e). (r, e, ap (λ v. v ∷ []) (unasked r e))) question-cases;
+        said = λ x g rs file aim.
+            let (t, r, read, e, d) = question-said x g rs file aim in
+            subst (λ v. QuestionLines x g (v ∷ [])) (sym (told t r read)) (subst (λ y. QuestionLines y g (askedNumbers (a t r read) (failing (a t r read) (f t r read)) ∷ [])) e (subst (λ y. QuestionLines (a t r read) y (askedNumbers (a t r read) (failing (a t r read) (f t r read)) ∷ [])) d (line t r read wide wide-room .0)));
+        unsaid = λ none. ⊎-elim (λ (t, r, read). absurd (none (automatonOf t) (f t r read) (rowsIn (withQuestion t r)) (read .said) (read .asked))) (λ (r, e). (r, e, (λ a file. question-turned w s q a file r e), ap (λ v. v ∷ []) (unasked r e))) question-cases;
         readable =
-            read-back (askPrinted (questionFiles s q))
-            (⊎-elim (λ (t, r, read). subst⁻¹ (λ v. Each Low (v ∷ [])) (told t r read) (low t r read)) (λ (r, e). subst⁻¹ (λ v. Each Low (v ∷ [])) (unasked r e) (question-refused-low s q r e)) question-cases);
+            read-back (askPrinted (questionFiles w s q))
+            (⊎-elim (λ (t, r, read). subst⁻¹ (λ v. Each Low (v ∷ [])) (told t r read) (low t r read)) (λ (r, e). subst⁻¹ (λ v. Each Low (v ∷ [])) (unasked r e) (question-refused-low w s q r e)) question-cases);
       }
 
   -- what the call returned, over a buffer with room
-  module _ (b : AskBuffers) (room : T (rowsRoom b)) (reply : Asking) (contents : List ℕ) (e : reply ≡ askReply (askFiles b s q)) (d : contents ≡ askContents (askFiles b s q) (b .contents)) where
-    enough : askFiles b s q ≡ questionFiles s q
-    enough = ask-roomy b s q (leb→le 10784 (length (b .rows)) room)
+  module _ (b : AskBuffers) (room : T (rowsRoom b)) (reply : Asking) (contents : List ℕ) (e : reply ≡ askReply (askFiles w b s q)) (d : contents ≡ askContents (askFiles w b s q) (b .contents)) where
+    enough : askFiles w b s q ≡ questionFiles w s q
+    enough = ask-roomy w b s q (leb→le 10784 (length (b .rows)) room)
 
     pub class-printed : classOf reply < 1000000
     unfolding askReply
@@ -267,7 +273,7 @@ module _ (s q : List ℕ) where
         (⊎-elim (λ (t, r, read). subst⁻¹ (λ j. classOf (askReply j) < 1000000) (read .files) (class-low (a t r read) (failing (a t r read) (f t r read)) (low t r read)))
         (λ (r, e). subst⁻¹ (λ j. classOf (askReply j) < 1000000) e (omega arith)) question-cases)
 
-    pub asked-line : askNumbers reply contents ∷ [] ≡ askPrinted (questionFiles s q)
+    pub asked-line : askNumbers reply contents ∷ [] ≡ askPrinted (questionFiles w s q)
     unfolding askReply askContents
     asked-line =
         ap₂ (λ x v. askNumbers x v ∷ []) (e ∙ ap askReply enough) (d ∙ ap (λ j. askContents j (b .contents)) enough)

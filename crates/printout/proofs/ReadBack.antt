@@ -38,6 +38,7 @@ use Rattle.witness.specs.Printed.{reachedCount}
 use Rattle.witness.proofs.RunJudged.{printed-right}
 use Rattle.writing.specs.Lines.{sixDigits}
 use Rattle.writing.proofs.ColumnNumbers.{field-column}
+use Rattle.claims.specs.declared.Notation.{Notation}
 use Rattle.claims.specs.Files.{targetFiles, questionFiles}
 use Rattle.claims.specs.ReachReply.{foundNumbers}
 use Rattle.claims.specs.AskReply.{askedNumbers}
@@ -141,11 +142,11 @@ module _ (a : Automaton) (wf : T (wellFormed a)) (lim : T (limited a)) (digits :
 
 -- Refusals
 
-refusal-low : (r : Refusal) → r .number ≤ 10 → (r .file ≤ 2) × (r .line ≤ 40001) → Each Low ((2 ∷ refusalNumbers r) ∷ [])
+refusal-low : (r : Refusal) → r .number ≤ 12 → (r .file ≤ 2) × (r .line ≤ 40001) → Each Low ((2 ∷ refusalNumbers r) ∷ [])
 refusal-low r h (k, l) = lines-more _ [] (low-more 2 _ (omega arith) (low-three (r .number) (r .file) (r .line) [] (omega arith) (omega arith) (omega arith) low-none)) (each-none Low)
 
 pub target-refused-low : (s g : List ℕ) (r : Refusal) → targetFiles s g ≡ refused r → Each Low ((2 ∷ refusalNumbers r) ∷ [])
 target-refused-low s g r e = refusal-low r (target-files-low s g r e) (target-placed s g r e)
 
-pub question-refused-low : (s q : List ℕ) (r : Refusal) → questionFiles s q ≡ refused r → Each Low ((2 ∷ refusalNumbers r) ∷ [])
-question-refused-low s q r e = refusal-low r (question-files-low s q r e) (asked-placed s q r e)
+pub question-refused-low : (w : Notation) (s q : List ℕ) (r : Refusal) → questionFiles w s q ≡ refused r → Each Low ((2 ∷ refusalNumbers r) ∷ [])
+question-refused-low w s q r e = refusal-low r (question-files-low w s q r e) (asked-placed w s q r e)

@@ -13,14 +13,18 @@ use Rattle.refusals.specs.Judged.{Judged, refusal, _then_, require}
 use Rattle.refusals.specs.Judged.Judged.{accepted, refused}
 use Rattle.fields.specs.Format.{fields, onto, pieces}
 use Rattle.fields.specs.LineFiles.{Rules, rowOf, judgeLine, readLines, readFile}
+use Rattle.automata.specs.Automaton.{Automaton}
 use Rattle.automata.specs.WellFormed.{constantCount}
 use Rattle.forms.specs.FormAutomaton.{automatonOf}
 use Rattle.reader.specs.declared.Progress.{Progress}
 use Rattle.reader.specs.Table.{Read, tableRules, blankForm, readForm, readTable, readTarget}
 use Rattle.reader.specs.TableRules.{atStart}
-use Rattle.questions.specs.Question.{nothingRead, questionRules, counts, readQuestion}
+use Rattle.questions.specs.Question.{Rows, nothingRead, questionRules, counts, readQuestion}
+use Rattle.texts.proofs.TextMeaning.{text-bounds}
 use Rattle.conditions.specs.Startable.{startable}
 use Rattle.opening.specs.Opening.{openTable, withStart}
+use Rattle.claims.specs.declared.Notation.{Notation}
+use Rattle.claims.specs.declared.Notation.the-variants.{Rows as inRows, Text as inText}
 use Rattle.claims.specs.Files.{targetFiles, questionTo, questionFiles}
 
 -- a refusal, if there is one, points to a file and to a line up to m
@@ -83,17 +87,22 @@ open-placed : (s : List ℕ) → Placed 40001 (openTable s)
 unfolding openTable
 open-placed s = placed-then 40001 (readTable s) withStart (form-placed 1 40000 atStart s (omega arith) (omega arith)) start-placed
 
-question-placed : (a : ℕ) (b : ℕ) (c : ℕ) (q : List ℕ) → Placed 40001 (readQuestion a b c q)
+question-placed : (w : Notation) (a : Automaton) (q : List ℕ) → Placed 40001 (questionTo w a q)
 unfolding readQuestion
-question-placed a b c q = file-placed (questionRules (counts a b c)) 2 40001 (omega arith) 608 nothingRead q (omega arith)
+question-placed inRows a q = file-placed (questionRules (counts (a .registers) (constantCount a) (a .locations))) 2 40001 (omega arith) 608 nothingRead q (omega arith)
+question-placed inText a q = by (questionTo inText a q) refl
+  where
+    by : (o : Judged Rows) → questionTo inText a q ≡ o → Placed 40001 o
+    by (accepted r) e = tt
+    by (refused n) e = let (x, h, k) = text-bounds a q n e in (h, omega arith)
 
 pub target-placed : (s g : List ℕ) (r : Refusal) → targetFiles s g ≡ refused r → (r .file ≤ 2) × (r .line ≤ 40001)
 target-placed s g r e =
     subst (Placed 40001) e
     (placed-then 40001 (openTable s) _ (open-placed s) (λ t. placed-then 40001 (readTarget t g) _ (form-placed 2 309 _ g (omega arith) (omega arith)) (λ u. tt)))
 
-pub asked-placed : (s q : List ℕ) (r : Refusal) → questionFiles s q ≡ refused r → (r .file ≤ 2) × (r .line ≤ 40001)
-asked-placed s q r e =
+pub asked-placed : (w : Notation) (s q : List ℕ) (r : Refusal) → questionFiles w s q ≡ refused r → (r .file ≤ 2) × (r .line ≤ 40001)
+asked-placed w s q r e =
     subst (Placed 40001) e
     (placed-then 40001 (openTable s) _ (open-placed s)
-    (λ t. let a = automatonOf t in placed-then 40001 (questionTo a q) _ (question-placed (a .registers) (constantCount a) (a .locations) q) (λ w. tt)))
+    (λ t. placed-then 40001 (questionTo w (automatonOf t) q) _ (question-placed w (automatonOf t) q) (λ r. tt)))

@@ -17,13 +17,14 @@ use Rattle.sets.specs.Members.{population}
 use Rattle.graphs.specs.Formulas.{Formula}
 use Rattle.automata.specs.Automaton.{Automaton}
 use Rattle.automata.specs.Runs.{Move, Target, Never}
-use Rattle.automata.specs.Questions.{Atom, Row, HoldsAtStarts, question}
+use Rattle.automata.specs.Questions.{Atom, Row, HoldsAtStarts}
 use Rattle.moves.specs.Taken.{Taken}
 use Rattle.concretization.specs.RunLines.{momentNumbers}
-use Rattle.writing.specs.Said.{TableFile, TargetFile, QuestionFile}
+use Rattle.writing.specs.Said.{TableFile, TargetFile}
+use Rattle.claims.specs.declared.Notation.{Notation}
 use Rattle.claims.specs.Files.{targetFiles, questionFiles}
 use Rattle.claims.specs.Reachable.{RunTo}
-use Rattle.claims.specs.Demand.{FailsWith}
+use Rattle.claims.specs.Demand.{QuestionSaid, QuestionRefused, FailsWith}
 
 -- Targets
 
@@ -67,8 +68,9 @@ pub record ReachPrintout (s g : List ℕ) (ls : List (List ℕ)) : Type 0 where
   pub unsaid : ((a : Automaton) (x : Target) → TableFile s a → TargetFile a g x → ⊥) → (r : Refusal) × (targetFiles s g ≡ refused r) × (ls ≡ (2 ∷ refusalNumbers r) ∷ [])
   pub readable : ReadBack ls
 
--- the same for the bytes q of a question
-pub record AskPrintout (s q : List ℕ) (ls : List (List ℕ)) : Type 0 where
-  pub said : (a : Automaton) (rs : List Row) → TableFile s a → QuestionFile a q rs → QuestionLines a (question rs) ls
-  pub unsaid : ((a : Automaton) (rs : List Row) → TableFile s a → QuestionFile a q rs → ⊥) → (r : Refusal) × (questionFiles s q ≡ refused r) × (ls ≡ (2 ∷ refusalNumbers r) ∷ [])
+-- the same for the bytes q of a question in the notation w; where they say a table, the refusal is one of the question
+pub record AskPrintout (w : Notation) (s q : List ℕ) (ls : List (List ℕ)) : Type 0 where
+  pub said : (a : Automaton) (f : Formula Atom) (rs : List Row) → TableFile s a → QuestionSaid w a q f rs → QuestionLines a f ls
+  pub unsaid : ((a : Automaton) (f : Formula Atom) (rs : List Row) → TableFile s a → QuestionSaid w a q f rs → ⊥)
+      → (r : Refusal) × (questionFiles w s q ≡ refused r) × ((a : Automaton) → TableFile s a → QuestionRefused w a q r) × (ls ≡ (2 ∷ refusalNumbers r) ∷ [])
   pub readable : ReadBack ls

@@ -7,6 +7,7 @@ use lib.ListN.{length}
 use lib.Seq.{sets}
 use Rattle.io.specs.Counts.{Counts}
 use Rattle.columns.specs.Columns.{fileBytes}
+use Rattle.claims.specs.declared.Notation.{Notation}
 use Rattle.claims.specs.Files.{targetFiles, questionFiles}
 use Rattle.printout.specs.Document.{ReachPrintout, AskPrintout}
 use Rattle.printout.specs.PrintedLines.{reachPrinted, askPrinted}
@@ -22,8 +23,8 @@ pub record ReachText (s g : List ℕ) (n : ℕ) (before after : List ℕ) : Type
   pub counts : Counts n after
   pub means : ReachPrintout s g (reachPrinted (targetFiles s g))
 
--- the same for the bytes q of a question
-pub record AskText (s q : List ℕ) (n : ℕ) (before after : List ℕ) : Type 0 where
-  pub put : Put (askPrinted (questionFiles s q)) 0 n before after
+-- the same for the bytes q of a question in the notation w
+pub record AskText (w : Notation) (s q : List ℕ) (n : ℕ) (before after : List ℕ) : Type 0 where
+  pub put : Put (askPrinted (questionFiles w s q)) 0 n before after
   pub counts : Counts n after
-  pub means : AskPrintout s q (askPrinted (questionFiles s q))
+  pub means : AskPrintout w s q (askPrinted (questionFiles w s q))

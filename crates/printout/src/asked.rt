@@ -1,10 +1,13 @@
-// The printout for a question: one line.
+// The printout for a question, in either notation: one line.
 ghost use mathlib.Core.Path.{_≡_};
 ghost use Prim.Native.Nat.{_≤_, _<_, min};
 ghost use lib.ListN.{length, take};
 ghost use Rattle.io.specs.Counts.{Counts};
 ghost use Rattle.columns.specs.Columns.{fileBytes};
-ghost use Rattle.claims.specs.Files.{questionFiles};
+ghost use Rattle.refusals.specs.Judged.{Judged};
+ghost use Rattle.claims.specs.declared.Notation.the-variants.{Rows, Text};
+ghost use Rattle.claims.specs.Files.{WithQuestion, questionFiles, AskBuffers, askBuffers, askFiles};
+ghost use Rattle.claims.specs.AskReply.{askReply, askContents};
 ghost use Rattle.claims.specs.AnswerNumbers.{askNumbers};
 ghost use Rattle.printout.specs.PrintedLines.{classOf, askPrinted};
 ghost use Rattle.printout.specs.Text.{AskText};
@@ -12,6 +15,7 @@ use crate::files::Printed;
 use crate::files::read_file;
 use crate::text::put_line;
 use checker::Asking;
+use claims::Notation;
 use libc::STDOUT_FILENO;
 
 pub struct Numbers {
@@ -57,13 +61,38 @@ fn first_line(reply: Asking, contents: [u32; 5]) -> Numbers
     }
 }
 
+// The checker's call on a question in this notation.
+fn ask_in(
+    notation: Notation,
+    table: &[u8],
+    question: &[u8],
+    rows: &mut [u32],
+    contents: &mut [u32; 5],
+) -> Asking
+    ensures { λ r.
+        let before : AskBuffers = askBuffers (now (rows .entry)) (now (contents .entry)) in
+        let f : Judged WithQuestion = askFiles notation before (now (table .entry)) (now (question .entry)) in
+        ⌜ (r ≡ askReply f) × (now (contents .exit) ≡ askContents f (before .contents)) ⌝ }
+{
+    match notation {
+        Notation::Rows => checker::ask(table, question, rows, contents),
+        Notation::Text => checker::ask_text(table, question, rows, contents),
+    }
+}
+
 // Writes the printout for the bytes of a table and a question, over lent memory for its rows; returns how long it is.
-fn ask_text_over(table: &[u8], question: &[u8], rows: &mut [u32], text: &mut [u8]) -> usize
+fn put_asking_over(
+    notation: Notation,
+    table: &[u8],
+    question: &[u8],
+    rows: &mut [u32],
+    text: &mut [u8],
+) -> usize
     requires { ⌜ (10784 ≤ length (now rows)) × (43 ≤ length (now text)) ⌝ }
-    ensures { λ r. ⌜ AskText (now (table .entry)) (now (question .entry)) r (now (text .entry)) (now (text .exit)) ⌝ }
+    ensures { λ r. ⌜ AskText notation (now (table .entry)) (now (question .entry)) r (now (text .entry)) (now (text .exit)) ⌝ }
 {
     let mut contents = [0u32; 5];
-    let reply = checker::ask(table, question, rows, &mut contents);
+    let reply = ask_in(notation, table, question, rows, &mut contents);
     let line = first_line(reply, contents);
     let n = line.count;
     let values = line.values;
@@ -71,23 +100,25 @@ fn ask_text_over(table: &[u8], question: &[u8], rows: &mut [u32], text: &mut [u8
 }
 
 // The same, over memory of its own.
-pub fn ask_text(table: &[u8], question: &[u8], text: &mut [u8]) -> usize
+pub fn put_asking(notation: Notation, table: &[u8], question: &[u8], text: &mut [u8]) -> usize
     requires { ⌜ 43 ≤ length (now text) ⌝ }
-    ensures { λ r. ⌜ AskText (now (table .entry)) (now (question .entry)) r (now (text .entry)) (now (text .exit)) ⌝ }
+    ensures { λ r. ⌜ AskText notation (now (table .entry)) (now (question .entry)) r (now (text .entry)) (now (text .exit)) ⌝ }
 {
     let mut rows = [0u32; 10784];
-    ask_text_over(table, question, &mut rows, text)
+    put_asking_over(notation, table, question, &mut rows, text)
 }
 
 // Hands the printout for these bytes of a table and a question to C's write.
-fn hand_over(table: &[u8], question: &[u8], text: &[u8]) -> bool
-    requires { ⌜ now text ≡ fileBytes (askPrinted (questionFiles (now table) (now question))) ⌝ }
+fn hand_over(notation: Notation, table: &[u8], question: &[u8], text: &[u8]) -> bool
+    requires { ⌜ now text ≡ fileBytes (askPrinted (questionFiles notation (now table) (now question))) ⌝ }
 {
     io::write_all(STDOUT_FILENO, text)
 }
 
-// Prints the answer for the files of these names: reads both into lent bytes, and hands the printout for what was read over, all at once.
-pub fn print_asking_over(
+// Prints the answer for the files of these names: reads both into lent bytes, and hands the printout for what was read over, all at once. Of the
+// question 609 bytes are more than either notation allows.
+fn print_over(
+    notation: Notation,
     table_name: &[u8],
     question_name: &[u8],
     table: &mut [u8],
@@ -96,12 +127,12 @@ pub fn print_asking_over(
 ) -> Printed
     requires { ⌜ (40001 ≤ length (now table)) × (609 ≤ length (now question)) × (43 ≤ length (now text)) ⌝ }
     ensures { λ r.
-        ⌜ AskText (take (r .table) (now (table .exit))) (take (r .other) (now (question .exit))) (r .text) (now (text .entry)) (now (text .exit)) ⌝ }
+        ⌜ AskText notation (take (r .table) (now (table .exit))) (take (r .other) (now (question .exit))) (r .text) (now (text .entry)) (now (text .exit)) ⌝ }
 {
     let t = read_file(table_name, table);
     let q = read_file(question_name, question);
-    let n = ask_text(&table[..t], &question[..q], text);
-    let all = hand_over(&table[..t], &question[..q], &text[..n]);
+    let n = put_asking(notation, &table[..t], &question[..q], text);
+    let all = hand_over(notation, &table[..t], &question[..q], &text[..n]);
     Printed {
         table: t,
         other: q,
@@ -111,11 +142,12 @@ pub fn print_asking_over(
 }
 
 // The same, over memory of its own; false where not all could be written.
-pub fn print_asking(table_name: &[u8], question_name: &[u8]) -> bool {
+fn print_in(notation: Notation, table_name: &[u8], question_name: &[u8]) -> bool {
     let mut table = [0u8; 40001];
     let mut question = [0u8; 609];
     let mut text = [b' '; 43];
-    let printed = print_asking_over(
+    let printed = print_over(
+        notation,
         table_name,
         question_name,
         &mut table,
@@ -123,4 +155,58 @@ pub fn print_asking(table_name: &[u8], question_name: &[u8]) -> bool {
         &mut text,
     );
     printed.all
+}
+
+// Prints the answer to a question that is a file of rows, over lent bytes.
+pub fn print_asking_over(
+    table_name: &[u8],
+    question_name: &[u8],
+    table: &mut [u8],
+    question: &mut [u8],
+    text: &mut [u8],
+) -> Printed
+    requires { ⌜ (40001 ≤ length (now table)) × (609 ≤ length (now question)) × (43 ≤ length (now text)) ⌝ }
+    ensures { λ r.
+        ⌜ AskText Rows (take (r .table) (now (table .exit))) (take (r .other) (now (question .exit))) (r .text) (now (text .entry)) (now (text .exit)) ⌝ }
+{
+    print_over(
+        Notation::Rows,
+        table_name,
+        question_name,
+        table,
+        question,
+        text,
+    )
+}
+
+// The same, over memory of its own; false where not all could be written.
+pub fn print_asking(table_name: &[u8], question_name: &[u8]) -> bool {
+    print_in(Notation::Rows, table_name, question_name)
+}
+
+// Prints the answer to a question that is a line of text, over lent bytes.
+pub fn print_asking_text_over(
+    table_name: &[u8],
+    question_name: &[u8],
+    table: &mut [u8],
+    question: &mut [u8],
+    text: &mut [u8],
+) -> Printed
+    requires { ⌜ (40001 ≤ length (now table)) × (609 ≤ length (now question)) × (43 ≤ length (now text)) ⌝ }
+    ensures { λ r.
+        ⌜ AskText Text (take (r .table) (now (table .exit))) (take (r .other) (now (question .exit))) (r .text) (now (text .entry)) (now (text .exit)) ⌝ }
+{
+    print_over(
+        Notation::Text,
+        table_name,
+        question_name,
+        table,
+        question,
+        text,
+    )
+}
+
+// The same, over memory of its own; false where not all could be written.
+pub fn print_asking_text(table_name: &[u8], question_name: &[u8]) -> bool {
+    print_in(Notation::Text, table_name, question_name)
 }

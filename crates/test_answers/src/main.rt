@@ -1,8 +1,8 @@
 // Prints the answers for the cases of the data folder, one after another: a line with the case's number, then its printout.
 
-// The files 01.table, 01.target, 02.table, .. (the engine's src/trials/answers.rs says what each case is). Cases 1 to 10, 18 and 19 have a target, the others a question.
-// In cases 9, 10, 15, 16 a file is missing, in cases 18 to 21 a folder stands in its place.
-const CASES: u32 = 21;
+// The files 01.table, 01.target, 02.table, .. (the engine's src/trials/answers.rs says what each case is). Cases 1 to 10, 18 and 19 have a target, those from 22 on a question as text (22.text), the others a question.
+// In cases 9, 10, 15, 16, 33, 34 a file is missing, in cases 18 to 21, 35 and 36 a folder stands in its place.
+const CASES: u32 = 36;
 
 fn digit(n: u32) -> u8 {
     48 + (n % 10) as u8
@@ -24,6 +24,14 @@ fn ask_case(a: u8, b: u8) -> bool {
     )
 }
 
+// A case of a question as text.
+fn text_case(a: u8, b: u8) -> bool {
+    printout::print_asking_text(
+        &[a, b, b'.', b't', b'a', b'b', b'l', b'e'],
+        &[a, b, b'.', b't', b'e', b'x', b't'],
+    )
+}
+
 fn has_target(i: u32) -> bool {
     (i <= 10) | (i == 18) | (i == 19)
 }
@@ -36,6 +44,9 @@ fn show(i: u32) -> bool {
     let b = digit(i);
     if has_target(i) {
         return reach_case(a, b);
+    }
+    if 22 <= i {
+        return text_case(a, b);
     }
     ask_case(a, b)
 }

@@ -1,10 +1,10 @@
-// Tries the boundary cases of reading: for each case of the data folder prints the case, the refusal's number, file and line, or zeros, and which files were there: 0 none, 1 the table, 3 the table and a target, 5 the table and a question.
+// Tries the boundary cases of reading: for each case of the data folder prints the case, the refusal's number, file and line, or zeros, and which files were there: 0 none, 1 the table, 3 the table and a target, 5 the table and a question, 9 the table and a question as text.
 ghost use Rattle.forms.specs.Readable.{Readable};
 use libc::STDOUT_FILENO;
 use refusals::Refusal;
 
-// The files 001.table, 001.target, 001.question, .. of the data folder (engine/boundaries.py says what each case is): a case has a table, and perhaps one of the others. In cases 128 to 130 a folder stands in the place of a file; case 131 has none.
-const CASES: u32 = 131;
+// The files 001.table, 001.target, 001.question, 001.text, .. of the data folder (engine/boundaries.py says what each case is): a case has a table, and perhaps one of the others. In cases 128 to 130 and 290 a folder stands in the place of a file; case 131 has none.
+const CASES: u32 = 290;
 
 // The refusal's numbers, zeros where all is read, and the files that were there.
 struct Tried {
@@ -39,10 +39,10 @@ fn of_reply(reply: reader::Reply, files: u32) -> Tried {
     }
 }
 
-fn of_question(reply: questions::Reply) -> Tried {
+fn of_question(reply: questions::Reply, files: u32) -> Tried {
     match reply {
-        questions::Reply::Accepted(_) => read(5),
-        questions::Reply::Refused(r) => refused(r, 5),
+        questions::Reply::Accepted(_) => read(files),
+        questions::Reply::Refused(r) => refused(r, files),
     }
 }
 
@@ -89,10 +89,34 @@ fn try_question(form: &[u32], a: u8, b: u8, c: u8) -> Tried
     let registers = forms::registers(form) as u32;
     let constants = forms::constants(form) as u32;
     let locations = forms::locations(form) as u32;
-    of_question(questions::read_question(registers, constants, locations, &bytes[..n], &mut rows))
+    of_question(
+        questions::read_question(registers, constants, locations, &bytes[..n], &mut rows),
+        5,
+    )
 }
 
-// The table of a case, and then its target or question.
+// The question as text of a case, if it has one.
+fn try_text(form: &[u32], a: u8, b: u8, c: u8) -> Tried
+    requires { ⌜ Readable (now form) ⌝ }
+{
+    let file = os::open_read(&[a, b, c, b'.', b't', b'e', b'x', b't']);
+    if file < 0 {
+        return read(1);
+    }
+    let mut bytes = io::buffer();
+    let n = io::read_full(file, &mut bytes);
+    libc::close(file);
+    let mut rows = [0u32; 96];
+    let registers = forms::registers(form) as u32;
+    let constants = forms::constants(form) as u32;
+    let locations = forms::locations(form) as u32;
+    of_question(
+        texts::read_text(registers, constants, locations, &bytes[..n], &mut rows),
+        9,
+    )
+}
+
+// The table of a case, and then its target, question or text.
 fn try_case(a: u8, b: u8, c: u8) -> Tried {
     let file = os::open_read(&[a, b, c, b'.', b't', b'a', b'b', b'l', b'e']);
     if file < 0 {
@@ -109,7 +133,11 @@ fn try_case(a: u8, b: u8, c: u8) -> Tried {
         if target.files == 3 {
             return target;
         }
-        return try_question(&form, a, b, c);
+        let question = try_question(&form, a, b, c);
+        if question.files == 5 {
+            return question;
+        }
+        return try_text(&form, a, b, c);
     }
     of_reply(reply, 1)
 }

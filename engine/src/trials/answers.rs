@@ -1,10 +1,10 @@
 //! The data of the program `test_answers`: files by name, and the printouts for them.
 //!
-//! Case NN has NN.table and NN.target or NN.question, of which one may be missing or a folder. The program prints the
-//! case's number on a line, then what the reaching or the asking program prints for these files.
+//! Case NN has NN.table and NN.target, NN.question or NN.text, of which one may be missing or a folder. The program
+//! prints the case's number on a line, then what the program of this kind of file prints for these files.
 
 use super::{concat_lines, fresh_data, sample_table, sample_without};
-use crate::answer::{ask, reach};
+use crate::answer::{ask, ask_text, reach};
 use crate::cases::bytes;
 use crate::print::{asked, fields, reached, Form};
 use std::fs;
@@ -23,9 +23,10 @@ use Part::{File, Folder, Missing};
 enum Case {
     Reach(Part, Part),
     Ask(Part, Part),
+    AskText(Part, Part),
 }
 
-use Case::{Ask, Reach};
+use Case::{Ask, AskText, Reach};
 
 fn cases() -> Vec<Case> {
     let sample = || File(sample_table());
@@ -33,7 +34,7 @@ fn cases() -> Vec<Case> {
     let third = || lines(&[&[4, 3]]);
     let equal = || lines(&[&[4, 3], &[5, 1, 1, 1, 1, 2]]);
     let inevitable = || lines(&[&[1, 3, 0], &[14, 1, 0]]);
-    let six_registers = {
+    let six_registers = || {
         let mut table = sample_table();
         table.splice(
             ..fields(&[1, 2, 1, 3, 2, 2]).len(),
@@ -41,18 +42,22 @@ fn cases() -> Vec<Case> {
         );
         File(table)
     };
-    let wide = lines(&[
-        &[1, 5, 2, 1, 1, 0],
-        &[2, 0],
-        &[2, 1],
-        &[3, 0],
-        &[4, 1],
-        &[5, 1, 1, 2, 3, 1],
-        &[5, 1, 1, 2, 3, 2],
-        &[5, 1, 2, 2, 1, 1],
-        &[5, 1, 3, 2, 1, 2],
-        &[5, 1, 4, 1, 3, 2],
-    ]);
+    let wide = || {
+        lines(&[
+            &[1, 5, 2, 1, 1, 0],
+            &[2, 0],
+            &[2, 1],
+            &[3, 0],
+            &[4, 1],
+            &[5, 1, 1, 2, 3, 1],
+            &[5, 1, 1, 2, 3, 2],
+            &[5, 1, 2, 2, 1, 1],
+            &[5, 1, 3, 2, 1, 2],
+            &[5, 1, 4, 1, 3, 2],
+        ])
+    };
+    let text = |t: &str| File(t.as_bytes().to_vec());
+    let separate = || text("AG!(L3&r1=r2)");
     let all_but = lines(&[&[2, 1, 5], &[4, 1, 0], &[3, 4, 2], &[5, 2, 3], &[4, 4, 0]]);
     vec![
         // 1 to 3: document 01's sample, place 3; with registers equal; the same without line 8 1 1 1.
@@ -74,18 +79,39 @@ fn cases() -> Vec<Case> {
         Ask(sample(), lines(&[&[2, 1, 1], &[8, 1, 0]])),
         Ask(sample(), inevitable()),
         // 13, 14: a table and a question that are turned back.
-        Ask(six_registers, inevitable()),
+        Ask(six_registers(), inevitable()),
         Ask(sample(), lines(&[&[1, 3, 0], &[14, 2, 0]])),
         // 15, 16: one of them missing.
         Ask(Missing, inevitable()),
         Ask(sample(), Missing),
         // 17: a no with five registers and two constants.
-        Ask(wide, all_but),
+        Ask(wide(), all_but),
         // 18 to 21: a folder in the place of a file.
         Reach(Folder, third()),
         Reach(sample(), Folder),
         Ask(Folder, inevitable()),
         Ask(sample(), Folder),
+        // 22 to 24: document 02's text; the same without line 8 1 1 1; without line 7 2 1 2 1 1.
+        AskText(sample(), separate()),
+        AskText(File(sample_without(&[8, 1, 1, 1])), separate()),
+        AskText(File(sample_without(&[7, 2, 1, 2, 1, 1])), separate()),
+        // 25, 26: the sample, E(U), yes and no.
+        AskText(sample(), text("E(r2=c1UL3)")),
+        AskText(sample(), text("E(r1=c1UL3)")),
+        // 27: a no with five registers and two constants.
+        AskText(wide(), text("!(!r1=r5&r4=c2)")),
+        // 28: a table that is turned back, and so is the text.
+        AskText(six_registers(), text("x")),
+        // 29 to 32: a text that is turned back, by 1, 11, 12 and 5.
+        AskText(sample(), text(&"!".repeat(401))),
+        AskText(sample(), text("AG!(L3&r1=r2)\n")),
+        AskText(sample(), text(&("!".repeat(32) + "L4"))),
+        AskText(sample(), text("EF(L3&!r1=r3)")),
+        // 33 to 36: one of them missing, or a folder in its place.
+        AskText(Missing, separate()),
+        AskText(sample(), Missing),
+        AskText(Folder, separate()),
+        AskText(sample(), Folder),
     ]
 }
 
@@ -109,6 +135,7 @@ pub fn write(folder: &Path) -> io::Result<()> {
         let (kind, table, other) = match case {
             Reach(table, target) => ("target", table, target),
             Ask(table, question) => ("question", table, question),
+            AskText(table, text) => ("text", table, text),
         };
         let paths = ["table", kind].map(|k| data.join(format!("{:02}.{k}", i + 1)));
         write_part(&paths[0], table)?;
@@ -119,6 +146,7 @@ pub fn write(folder: &Path) -> io::Result<()> {
         text += &match case {
             Reach(..) => reached(Form::Fields, &reach(&table, &other, None)),
             Ask(..) => asked(Form::Fields, &ask(&table, &other, None)),
+            AskText(..) => asked(Form::Fields, &ask_text(&table, &other, None)),
         };
     }
     fs::write(folder.join("stdout"), text)

@@ -1,17 +1,17 @@
 //! The data of the program `test_random`: groups of cases with this engine's results.
 //!
-//! A group is one file. A case is its header, then its table, its target, its question and its list for the replayer.
-//! The header's FIELDS numbers:
-//! lengths of table, target and question in bytes, and of the list in numbers;
+//! A group is one file. A case is its header, then its table, its target, its question, its question as text and its list
+//! for the replayer. The header's FIELDS numbers:
+//! lengths of table, target, question and text in bytes, and of the list in numbers;
 //! reaching: reply (0 never, 1 reached, 2 refused), then steps, reached configurations, and the digests of words, least
 //! steps, links, run and printed moments; where refused number, file and line;
 //! asking: reply (0 no, 1 yes, 2 refused), then class, digest of the five contents, digest of the rows; where refused
-//! number, file and line;
+//! number, file and line; the same of asking by the text;
 //! replaying: reply (0 bad, 1 good, 2 refused), then the bad moment; where refused number, file and line.
 //! Other fields are 0.
 
 use super::{concat_lines, digits, fresh_data, header, random_for, report, sample_table, sample_without, titles};
-use crate::answer::{ask, reach, Asked, Reached};
+use crate::answer::{ask, ask_text, reach, Asked, Reached};
 use crate::counter::{counter, falling};
 use crate::generate::{case, Shape};
 use crate::mutate::mutate;
@@ -20,21 +20,25 @@ use crate::random::Random;
 use crate::read::Refusal;
 use crate::replay::{replay, Replayed};
 use crate::table::{Arc, Condition, Row, Table, Target, Term};
+use crate::texts;
 use crate::write;
 use std::fs;
 use std::io;
 use std::path::Path;
 
-pub const FIELDS: usize = 20;
+pub const FIELDS: usize = 25;
 /// The longest list for the replayer, in numbers, and the longest table and other file, in bytes: the program's room.
 const LIST: usize = 2_000;
 const TABLE: usize = 40_500;
 const OTHER: usize = 1_000;
+/// What sets the groups of texts apart from the others.
+const TEXTS: u64 = 20;
 
 pub struct Files {
     pub table: Vec<u8>,
     pub target: Vec<u8>,
     pub question: Vec<u8>,
+    pub text: Vec<u8>,
     pub list: Vec<u32>,
 }
 
@@ -44,6 +48,7 @@ struct Counts {
     cases: usize,
     reach: [usize; 3],
     ask: [usize; 3],
+    ask_text: [usize; 3],
     replay: [usize; 3],
 }
 
@@ -97,45 +102,59 @@ fn record(files: &Files, counts: &mut Counts) -> Vec<u8> {
         files.table.len() as u64,
         files.target.len() as u64,
         files.question.len() as u64,
+        files.text.len() as u64,
         files.list.len() as u64,
     ];
     let reached = reach_fields(&reach(&files.table, &files.target, None));
     let asked = ask_fields(&ask(&files.table, &files.question, None));
+    let by_text = ask_fields(&ask_text(&files.table, &files.text, None));
     let replayed = replay_fields(&replay(&files.table, &files.list));
     counts.cases += 1;
     counts.reach[reached[0] as usize] += 1;
     counts.ask[asked[0] as usize] += 1;
+    counts.ask_text[by_text[0] as usize] += 1;
     counts.replay[replayed[0] as usize] += 1;
     fields.extend(reached);
     fields.extend(asked);
+    fields.extend(by_text);
     fields.extend(replayed);
     assert_eq!(fields.len(), FIELDS);
     let mut bytes = header(&fields);
     bytes.extend(&files.table);
     bytes.extend(&files.target);
     bytes.extend(&files.question);
+    bytes.extend(&files.text);
     bytes.extend(digits(&files.list));
     bytes
 }
 
-fn files(random: &mut Random, shape: Shape) -> Files {
+/// A case, and its table before anything is damaged. The text is drawn by a generator of its own: it came later, and the
+/// rest stays as it was.
+fn files(random: &mut Random, drawn: &mut Random, shape: Shape) -> (Files, Table) {
     let c = case(random, shape);
     let mut list = c.list;
     if list.len() > LIST {
         // A part of a run from its start is a run.
         list.truncate(5 + 9 * (LIST / 9 - 1));
     }
-    Files {
+    let files = Files {
         table: write::table(&c.table),
         target: write::target(&c.target),
         question: write::question(&c.question),
+        text: texts::good(drawn, &c.table).text().into_bytes(),
         list,
-    }
+    };
+    (files, c.table)
+}
+
+/// The generator of a case's text.
+fn drawn_for(seed: u64, group: u64, case: usize) -> Random {
+    random_for(seed, TEXTS + group, case)
 }
 
 fn valid(seed: u64, group: u64, shape: Shape, count: usize) -> Vec<Files> {
     (1..=count)
-        .map(|i| files(&mut random_for(seed, group, i), shape))
+        .map(|i| files(&mut random_for(seed, group, i), &mut drawn_for(seed, group, i), shape).0)
         .collect()
 }
 
@@ -193,6 +212,7 @@ fn widest(random: &mut Random, set: usize) -> Files {
             conditions: vec![never],
         }),
         question: write::question(&question.map(|(kind, a, b)| Row { kind, a, b })),
+        text: b"E(EGEF(L3&r1=r5)UAXAFL3)".to_vec(),
         list: vec![0; 5],
     }
 }
@@ -206,6 +226,7 @@ fn longest(seed: u64) -> Vec<Files> {
         table: write::table(&table),
         target: write::target(&target),
         question: write::question(&place.map(|(kind, a, b)| Row { kind, a, b })),
+        text: b"AGEFL1".to_vec(),
         list: vec![0, 0, 0, 0, 0],
     };
     let (table, target) = falling();
@@ -214,6 +235,8 @@ fn longest(seed: u64) -> Vec<Files> {
         table: write::table(&table),
         target: write::target(&target),
         question: write::question(&endless.map(|(kind, a, b)| Row { kind, a, b })),
+        // Once is enough.
+        text: b"EXr1=r1".to_vec(),
         list: vec![0, 0, 0, 0, 0],
     };
     vec![counting, falling]
@@ -248,7 +271,12 @@ fn damaged(seed: u64) -> Vec<Files> {
         if matches!(shape, Shape::Full | Shape::Large) && case % 3 != 0 {
             continue;
         }
-        let mut f = files(&mut random, shape);
+        let mut drawn = drawn_for(seed, 8, case);
+        let (mut f, table) = files(&mut random, &mut drawn, shape);
+        f.text = texts::damaged(&mut drawn, &table);
+        while f.text.len() > OTHER {
+            f.text = texts::damaged(&mut drawn, &table);
+        }
         let what = match random.below(3) {
             0 => {
                 f.table = mutate(&mut random, &f.table);
@@ -297,54 +325,65 @@ fn examples() -> Vec<Files> {
         text.into_bytes()
     };
     let target = |conditions: usize| (line(&[4, 1]) + &line(&same).repeat(conditions)).into_bytes();
-    let rows = |count: usize| line(&[1, 1, 0]).repeat(count).into_bytes();
-    let good = |table: Vec<u8>, target: Vec<u8>, question: Vec<u8>| Files {
+    // A question as rows, and as text. So many rows that hold at place 1, an even number of them negations in the text.
+    let rows = |count: usize| {
+        let text = match count {
+            1 => "L1".to_string(),
+            n => "!".repeat(n - 2) + "EFL1",
+        };
+        (line(&[1, 1, 0]).repeat(count).into_bytes(), text)
+    };
+    let asked = |rows: &[&[usize]], text: &str| (concat_lines(rows), text.to_string());
+    let good = |table: Vec<u8>, target: Vec<u8>, (question, text): (Vec<u8>, String)| Files {
         table,
         target,
         question,
+        text: text.into_bytes(),
         list: vec![0; 5],
     };
     let mut found = Vec::new();
-    let mut add = |files: Files, reached: &[u64], asked: &[u64]| {
+    let mut add = |files: Files, reached: &[u64], asked: &[u64], by_text: &[u64]| {
         assert!(reach_fields(&reach(&files.table, &files.target, None)).starts_with(reached));
         assert!(ask_fields(&ask(&files.table, &files.question, None)).starts_with(asked));
+        assert!(ask_fields(&ask_text(&files.table, &files.text, None)).starts_with(by_text));
         found.push(files);
     };
-    // Reached in 0 steps; yes.
-    let (pass, yes): (&[u64], &[u64]) = (&[1, 0], &[1]);
+    // Reached in 0 steps; yes; no.
+    let (pass, yes, no): (&[u64], &[u64], &[u64]) = (&[1, 0], &[1], &[0]);
     // The sample: two steps to place 3, and AF place 3.
-    add(
-        good(
-            sample.clone(),
-            line(&[4, 3]).into_bytes(),
-            concat_lines(&[&[1, 3, 0], &[14, 1, 0]]),
-        ),
-        &[1, 2, 3],
-        yes,
-    );
+    let third = || line(&[4, 3]).into_bytes();
+    let inevitable = || asked(&[&[1, 3, 0], &[14, 1, 0]], "AFL3");
+    add(good(sample.clone(), third(), inevitable()), &[1, 2, 3], yes, yes);
     // With registers equal: never; without line 8 1 1 1 two steps. EG of register 1 = register 1: no.
     let equal = concat_lines(&[&[4, 3], &[5, 1, 1, 1, 1, 2]]);
-    let endless = concat_lines(&[&[2, 1, 1], &[8, 1, 0]]);
-    add(good(sample.clone(), equal.clone(), endless.clone()), &[0], &[0]);
+    let endless = || asked(&[&[2, 1, 1], &[8, 1, 0]], "EGr1=r1");
+    add(good(sample.clone(), equal.clone(), endless()), &[0], no, no);
     let ends = reach(&loose, &equal, None).map(|a| a.run[a.run.len() - 5..].to_vec());
     assert_eq!(ends, Ok(vec![2, 2, 0, 0, 0]));
-    add(good(loose, equal, endless.clone()), &[1, 2], &[0]);
+    add(good(loose.clone(), equal.clone(), endless()), &[1, 2], no, no);
     // A run of 0 steps.
-    add(good(sample.clone(), target(0), rows(1)), pass, yes);
+    add(good(sample.clone(), target(0), rows(1)), pass, yes, yes);
     // 5 registers pass, 6 are 3.
-    add(good(table(5, 0, 0), target(0), rows(1)), pass, yes);
-    add(good(table(6, 0, 0), target(0), rows(1)), &[2, 3, 1, 1], &[2, 3, 1, 1]);
+    add(good(table(5, 0, 0), target(0), rows(1)), pass, yes, yes);
+    let size: &[u64] = &[2, 3, 1, 1];
+    add(good(table(6, 0, 0), target(0), rows(1)), size, size, size);
     // In a table 8 conditions pass, 9 are 6: start conditions, then an arc's.
-    add(good(table(1, 8, 0), target(0), rows(1)), pass, yes);
-    add(good(table(1, 9, 0), target(0), rows(1)), &[2, 6, 1, 12], &[2, 6, 1, 12]);
-    add(good(table(1, 0, 8), target(0), rows(1)), pass, yes);
-    add(good(table(1, 0, 9), target(0), rows(1)), &[2, 6, 1, 13], &[2, 6, 1, 13]);
+    let (start, arc): (&[u64], &[u64]) = (&[2, 6, 1, 12], &[2, 6, 1, 13]);
+    add(good(table(1, 8, 0), target(0), rows(1)), pass, yes, yes);
+    add(good(table(1, 9, 0), target(0), rows(1)), start, start, start);
+    add(good(table(1, 0, 8), target(0), rows(1)), pass, yes, yes);
+    add(good(table(1, 0, 9), target(0), rows(1)), arc, arc, arc);
     // In a target 8 pass, 9 are 1.
-    add(good(table(1, 0, 0), target(8), rows(1)), pass, yes);
-    add(good(table(1, 0, 0), target(9), rows(1)), &[2, 1, 2, 0], yes);
-    // 32 rows pass, 33 are 1.
-    add(good(table(1, 0, 0), target(0), rows(32)), pass, yes);
-    add(good(table(1, 0, 0), target(0), rows(33)), pass, &[2, 1, 2, 0]);
+    add(good(table(1, 0, 0), target(8), rows(1)), pass, yes, yes);
+    add(good(table(1, 0, 0), target(9), rows(1)), &[2, 1, 2, 0], yes, yes);
+    // 32 rows pass, 33 are 1; in a text they are 12.
+    add(good(table(1, 0, 0), target(0), rows(32)), pass, yes, yes);
+    add(
+        good(table(1, 0, 0), target(0), rows(33)),
+        pass,
+        &[2, 1, 2, 0],
+        &[2, 12, 2, 0],
+    );
     // A register that is not set may hold anything: here no longer the constant.
     let other = concat_lines(&[&[4, 2], &[5, 1, 1, 2, 3, 1]]);
     let unset = concat_lines(&[
@@ -355,7 +394,7 @@ fn examples() -> Vec<Files> {
         &[5, 1, 1, 1, 3, 1],
         &[6, 1, 1, 2],
     ]);
-    add(good(unset, other.clone(), endless.clone()), &[1, 1], &[0]);
+    add(good(unset, other.clone(), endless()), &[1, 1], no, no);
     // A register that holds no constant does not equal one: no step, EG is false there and AF true.
     let apart = concat_lines(&[
         &[1, 1, 1, 2, 1, 1],
@@ -366,9 +405,9 @@ fn examples() -> Vec<Files> {
         &[6, 1, 1, 2],
         &[7, 1, 1, 1, 3, 1],
     ]);
-    let always = concat_lines(&[&[1, 2, 0], &[14, 1, 0]]);
-    add(good(apart.clone(), other.clone(), endless), &[0, 0], &[0]);
-    add(good(apart, other, always.clone()), &[0, 0], &[1]);
+    let always = || asked(&[&[1, 2, 0], &[14, 1, 0]], "AFL2");
+    add(good(apart.clone(), other.clone(), endless()), &[0, 0], no, no);
+    add(good(apart, other, always()), &[0, 0], yes, yes);
     // A stored parameter, then a fresh one.
     let both = concat_lines(&[
         &[1, 1, 0, 3, 1, 2],
@@ -381,13 +420,35 @@ fn examples() -> Vec<Files> {
         &[7, 2, 1, 2, 1, 1],
         &[8, 1, 2, 1],
     ]);
-    add(good(both, line(&[4, 3]).into_bytes(), always), &[1, 2], &[1]);
+    add(good(both, third(), always()), &[1, 2], yes, yes);
+    // Document 02's text: nobody revises her own segment; without line 8 1 1 1 somebody may.
+    let apart = || {
+        asked(
+            &[&[1, 3, 0], &[2, 1, 2], &[5, 1, 2], &[4, 3, 0], &[13, 4, 0]],
+            "AG!(L3&r1=r2)",
+        )
+    };
+    add(good(sample.clone(), equal.clone(), apart()), &[0], yes, yes);
+    add(good(loose, equal.clone(), apart()), &[1], no, no);
+    // What is turned back of a text, in this order: 1, 11, 12, 5.
+    for (text, refused) in [
+        ("!".repeat(401), [2, 1, 2, 0]),
+        ("!".repeat(400), [2, 11, 2, 401]),
+        ("!".repeat(40) + "x", [2, 11, 2, 41]),
+        ("AG!(L3&r1=r2)\n".to_string(), [2, 11, 2, 14]),
+        ("(L9&E(L1&L2))".to_string(), [2, 11, 2, 9]),
+        ("!".repeat(32) + "L9", [2, 12, 2, 0]),
+        ("(r1=c1&(L3>(L4|r3=c1)))".to_string(), [2, 5, 2, 3]),
+    ] {
+        let question = (inevitable().0, text);
+        add(good(sample.clone(), equal.clone(), question), &[0], yes, &refused);
+    }
     found
 }
 
 fn summary(name: &str, c: &Counts) -> String {
     let by_reply = |r: &[usize; 3]| [r[1], r[0], r[2]];
-    let counts = [by_reply(&c.reach), by_reply(&c.ask), by_reply(&c.replay)].concat();
+    let counts = [&c.reach, &c.ask, &c.ask_text, &c.replay].map(by_reply).concat();
     report(name, 8, &[vec![c.cases], counts, vec![0]].concat())
 }
 
@@ -411,7 +472,8 @@ pub fn write(folder: &Path, seed: u64) -> io::Result<()> {
         "group",
         8,
         &[
-            "cases", "reached", "never", "refused", "yes", "no", "refused", "good", "bad", "refused", "differ",
+            "cases", "reached", "never", "refused", "yes", "no", "refused", "yes", "no", "refused", "good", "bad",
+            "refused", "differ",
         ],
     );
     for (name, cases) in groups {

@@ -23,6 +23,12 @@ slice-aggregate-try-question c = sym (readable (c .before .before .before .befor
 try-question-requires : tie.Need-try-question-requires
 try-question-requires c κs = readable (c .before .before .before .before .before)
 
+slice-aggregate-try-text : tie.Need-slice-aggregate-try-text
+slice-aggregate-try-text c = sym (readable (c .before .before .before .before .before .before .before .before .before) .long)
+
+try-text-requires : tie.Need-try-text-requires
+try-text-requires c κs = readable (c .before .before .before .before .before .before .before .before .before)
+
 pub try-case-spec : {M : Type 1} → statement M
 try-case-spec =
     tie.close
@@ -44,6 +50,9 @@ try-case-spec =
     (λ c. search needs)
     slice-aggregate-try-question
     try-question-requires
+    (λ c. search needs)
+    slice-aggregate-try-text
+    try-text-requires
     (λ c. search needs)
     (λ c. search needs)
     (λ c κs. search needs)
