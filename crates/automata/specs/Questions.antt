@@ -37,6 +37,7 @@ pub record Row : Type 0 where
   pub first : ℕ
   pub second : ℕ
 
+-- the row of this kind with these fields
 abbrev pub row : ℕ → ℕ → ℕ → Row
 row k a b = record { kind = k; first = a; second = b }
 

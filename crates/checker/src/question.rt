@@ -5,7 +5,6 @@ ghost use mathlib.Core.Path.{_≡_};
 ghost use Prim.Native.Nat.{ℕ, _≤_};
 ghost use lib.Dec.{T};
 ghost use lib.ListN.{length};
-ghost use Rattle.refusals.specs.Judged.{Judged};
 ghost use Rattle.automata.specs.Automaton.{Automaton};
 ghost use Rattle.automata.specs.Questions.{Row, question as asked, rowFormulas};
 ghost use Rattle.automata.specs.Configurations.{classes};
@@ -17,10 +16,9 @@ ghost use Rattle.forms.specs.Readable.{Readable};
 ghost use Rattle.questions.specs.QuestionReply.{replyOf, formOf};
 ghost use Rattle.forms.specs.ClassLabels.{Lent};
 ghost use Rattle.formulas.specs.Rows.{shown};
-ghost use Rattle.claims.specs.Files.{WithQuestion, questionTo, AskBuffers, askBuffers, askFiles};
-ghost use Rattle.claims.specs.AskReply.{askedReply, askedContents, askReply, askTold, askRows, askContents};
-ghost use Rattle.claims.specs.AnswerNumbers.{askNumbers};
-ghost use Rattle.claims.specs.Demand.{AskMeans};
+ghost use Rattle.claims.specs.Files.{questionTo, AskBuffers, askBuffers};
+ghost use Rattle.claims.specs.AskReply.{askedReply, askedContents};
+ghost use Rattle.claims.specs.Demand.{AskPromise};
 ghost use Rattle.claims.specs.declared.Notation.the-variants.{Rows, Text};
 use crate::given::classes_in;
 use claims::Asking;
@@ -120,12 +118,7 @@ pub(crate) fn ask_in(
     ensures { λ r.
         let before : AskBuffers = askBuffers (now (rows .entry)) (now (contents .entry)) in
         let after : AskBuffers = askBuffers (now (rows .exit)) (now (contents .exit)) in
-        let f : Judged WithQuestion = askFiles notation before (now (table .entry)) (now (question .entry)) in
-        ⌜ (r ≡ askReply f)
-        × (askNumbers r (after .contents) ≡ askTold f)
-        × (after .rows ≡ askRows f (before .rows))
-        × (after .contents ≡ askContents f (before .contents))
-        × AskMeans notation (now (table .entry)) (now (question .entry)) r before after ⌝ }
+        ⌜ AskPromise notation (now (table .entry)) (now (question .entry)) r before after ⌝ }
 {
     if rows.len() < 10784 {
         return Asking::Refused(Refusal {
@@ -157,12 +150,7 @@ pub fn ask(table: &[u8], question: &[u8], rows: &mut [u32], contents: &mut [u32;
     ensures { λ r.
         let before : AskBuffers = askBuffers (now (rows .entry)) (now (contents .entry)) in
         let after : AskBuffers = askBuffers (now (rows .exit)) (now (contents .exit)) in
-        let f : Judged WithQuestion = askFiles Rows before (now (table .entry)) (now (question .entry)) in
-        ⌜ (r ≡ askReply f)
-        × (askNumbers r (after .contents) ≡ askTold f)
-        × (after .rows ≡ askRows f (before .rows))
-        × (after .contents ≡ askContents f (before .contents))
-        × AskMeans Rows (now (table .entry)) (now (question .entry)) r before after ⌝ }
+        ⌜ AskPromise Rows (now (table .entry)) (now (question .entry)) r before after ⌝ }
 {
     ask_in(Notation::Rows, table, question, rows, contents)
 }
@@ -172,12 +160,7 @@ pub fn ask_text(table: &[u8], text: &[u8], rows: &mut [u32], contents: &mut [u32
     ensures { λ r.
         let before : AskBuffers = askBuffers (now (rows .entry)) (now (contents .entry)) in
         let after : AskBuffers = askBuffers (now (rows .exit)) (now (contents .exit)) in
-        let f : Judged WithQuestion = askFiles Text before (now (table .entry)) (now (text .entry)) in
-        ⌜ (r ≡ askReply f)
-        × (askNumbers r (after .contents) ≡ askTold f)
-        × (after .rows ≡ askRows f (before .rows))
-        × (after .contents ≡ askContents f (before .contents))
-        × AskMeans Text (now (table .entry)) (now (text .entry)) r before after ⌝ }
+        ⌜ AskPromise Text (now (table .entry)) (now (text .entry)) r before after ⌝ }
 {
     ask_in(Notation::Text, table, text, rows, contents)
 }

@@ -129,22 +129,25 @@ size (A o q) = suc (size q)
 size (joined o p q) = suc (size p + size q)
 size (until p q) = suc (size p + size q)
 
--- document 01's kinds of rows
+-- the row of an atom: document 01's kinds 1 to 3
 abbrev pub atomRow : Atom → Row
 atomRow (at l) = row 1 l 0
 atomRow (equal i j) = row 2 i j
 atomRow (is i j) = row 3 i j
 
+-- EX, EG, EF in document 01's kinds
 abbrev pub existsKind : Temporal → ℕ
 existsKind X = 6
 existsKind G = 8
 existsKind F = 12
 
+-- AX, AG, AF
 abbrev pub alwaysKind : Temporal → ℕ
 alwaysKind X = 11
 alwaysKind G = 13
 alwaysKind F = 14
 
+-- and, or, implies
 abbrev pub joinKind : Join → ℕ
 joinKind conjunction = 5
 joinKind disjunction = 9

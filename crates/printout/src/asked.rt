@@ -5,7 +5,6 @@ ghost use lib.ListN.{length, take};
 ghost use Rattle.io.specs.Counts.{Counts};
 ghost use Rattle.columns.specs.Columns.{fileBytes};
 ghost use Rattle.refusals.specs.Judged.{Judged};
-ghost use Rattle.claims.specs.declared.Notation.the-variants.{Rows, Text};
 ghost use Rattle.claims.specs.Files.{WithQuestion, questionFiles, AskBuffers, askBuffers, askFiles};
 ghost use Rattle.claims.specs.AskReply.{askReply, askContents};
 ghost use Rattle.claims.specs.AnswerNumbers.{askNumbers};
@@ -117,7 +116,7 @@ fn hand_over(notation: Notation, table: &[u8], question: &[u8], text: &[u8]) -> 
 
 // Prints the answer for the files of these names: reads both into lent bytes, and hands the printout for what was read over, all at once. Of the
 // question 609 bytes are more than either notation allows.
-fn print_over(
+pub fn print_asking_over(
     notation: Notation,
     table_name: &[u8],
     question_name: &[u8],
@@ -146,7 +145,7 @@ fn print_in(notation: Notation, table_name: &[u8], question_name: &[u8]) -> bool
     let mut table = [0u8; 40001];
     let mut question = [0u8; 609];
     let mut text = [b' '; 43];
-    let printed = print_over(
+    let printed = print_asking_over(
         notation,
         table_name,
         question_name,
@@ -157,56 +156,12 @@ fn print_in(notation: Notation, table_name: &[u8], question_name: &[u8]) -> bool
     printed.all
 }
 
-// Prints the answer to a question that is a file of rows, over lent bytes.
-pub fn print_asking_over(
-    table_name: &[u8],
-    question_name: &[u8],
-    table: &mut [u8],
-    question: &mut [u8],
-    text: &mut [u8],
-) -> Printed
-    requires { ⌜ (40001 ≤ length (now table)) × (609 ≤ length (now question)) × (43 ≤ length (now text)) ⌝ }
-    ensures { λ r.
-        ⌜ AskText Rows (take (r .table) (now (table .exit))) (take (r .other) (now (question .exit))) (r .text) (now (text .entry)) (now (text .exit)) ⌝ }
-{
-    print_over(
-        Notation::Rows,
-        table_name,
-        question_name,
-        table,
-        question,
-        text,
-    )
-}
-
-// The same, over memory of its own; false where not all could be written.
+// Prints the answer to a question that is a file of rows.
 pub fn print_asking(table_name: &[u8], question_name: &[u8]) -> bool {
     print_in(Notation::Rows, table_name, question_name)
 }
 
-// Prints the answer to a question that is a line of text, over lent bytes.
-pub fn print_asking_text_over(
-    table_name: &[u8],
-    question_name: &[u8],
-    table: &mut [u8],
-    question: &mut [u8],
-    text: &mut [u8],
-) -> Printed
-    requires { ⌜ (40001 ≤ length (now table)) × (609 ≤ length (now question)) × (43 ≤ length (now text)) ⌝ }
-    ensures { λ r.
-        ⌜ AskText Text (take (r .table) (now (table .exit))) (take (r .other) (now (question .exit))) (r .text) (now (text .entry)) (now (text .exit)) ⌝ }
-{
-    print_over(
-        Notation::Text,
-        table_name,
-        question_name,
-        table,
-        question,
-        text,
-    )
-}
-
-// The same, over memory of its own; false where not all could be written.
-pub fn print_asking_text(table_name: &[u8], question_name: &[u8]) -> bool {
-    print_in(Notation::Text, table_name, question_name)
+// Prints the answer to a question that is a line of text.
+pub fn print_asking_text(table_name: &[u8], text_name: &[u8]) -> bool {
+    print_in(Notation::Text, table_name, text_name)
 }

@@ -7,7 +7,6 @@ pub mod text;
 pub use asked::print_asking;
 pub use asked::print_asking_over;
 pub use asked::print_asking_text;
-pub use asked::print_asking_text_over;
 pub use files::Printed;
 pub use found::print_reaching;
 pub use found::print_reaching_over;
