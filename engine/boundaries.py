@@ -1,5 +1,5 @@
 #!/usr/bin/env python3
-"""Writes the boundary cases of reading: for each refusal number of documents 01 and 02 (W1) files at and just past its limit.
+"""Writes the boundary cases of reading: for each refusal number of documents 01 and 02 (W1, W2) files at and just past its limit.
 
 boundaries.py DATA STDOUT writes the files NNN.table, NNN.target, NNN.question, NNN.text to the folder DATA, and to the file
 STDOUT what must be printed for them: case, refusal number, file, line (0 0 0 where all is read), and which files are there
@@ -15,8 +15,14 @@ def fields(*numbers):
     return "".join("%6d" % n for n in numbers)
 
 
+def constant(identifier):
+    """A line 2 of a table, its identifier in twelve columns."""
+    return "%6d%12d" % (2, identifier)
+
+
 def lines(*rows):
-    return "".join(fields(*r) + "\n" for r in rows).encode()
+    """Lines of a table, a target or a question. Only a table has lines of two numbers whose kind is 2: its constants."""
+    return "".join((constant(r[1]) if len(r) == 2 and r[0] == 2 else fields(*r)) + "\n" for r in rows).encode()
 
 
 SAMPLE = [
@@ -45,6 +51,11 @@ def small(registers=1, constants=(), locations=1, arities=(0,), start=1, startin
     for origin, action, to, conditions, sets in arcs:
         rows += [(6, origin, action, to)] + [(7,) + tuple(c) for c in conditions] + [(8,) + tuple(s) for s in sets]
     return lines(*rows)
+
+
+def nobody(line):
+    """The sample with this in the place of its line 2 and that line's byte 10."""
+    return SAMPLE_BYTES.replace(lines(SAMPLE[1]), line)
 
 
 SAME = (1, 1, 1, 1, 1)  # register 1 = register 1
@@ -81,12 +92,12 @@ def joined(places, sign=b"&"):
 
 # what is read
 table(SAMPLE_BYTES, why="the sample")
-table(small(registers=5, constants=(0, 999999), locations=16, arities=(3,) * 16), why="5 registers, 2 constants, 16 places, 16 actions")
+table(small(registers=5, constants=(0, 4294967295), locations=16, arities=(3,) * 16), why="5 registers, 2 constants, 16 places, 16 actions")
 table(small(registers=0, arities=(0,)), why="no register")
 table(small(starting=[SAME] * 8), why="8 start conditions")
 table(small(arcs=[(1, 1, 1, [SAME] * 8, [])]), why="8 arc conditions")
 table(small(arcs=[(1, 1, 1, [], [])] * 64), why="64 arcs")
-table(small(constants=(999999,)), why="six digits that touch the kind's field")
+table(small(constants=(999999,)), why="an identifier of six digits")
 # 1
 table(b"\n" * 40001, 1, 0, "a byte too many")
 table(b"\n" * 40000, 2, 1, "at the limit the lines are looked at")
@@ -108,20 +119,20 @@ table(lines(SAMPLE[0], SAMPLE[0]), 2, 2, "line 1 twice")
 table(lines(SAMPLE[1]), 2, 1, "line 1 does not come first")
 table(lines((9, 1)), 2, 1, "no such kind")
 table(lines((0, 1)), 2, 1, "kind 0")
-table(SAMPLE_BYTES.replace(b"     2     0\n", b"    02     0\n"), 2, 2, "a leading zero")
-table(SAMPLE_BYTES.replace(b"     2     0\n", b"     2    00\n"), 2, 2, "two zeros")
-table(SAMPLE_BYTES.replace(b"     2     0\n", b"     2   0 0\n"), 2, 2, "two numbers in a field")
-table(SAMPLE_BYTES.replace(b"     2     0\n", b"     2\t    0\n"), 2, 2, "a tab")
-table(SAMPLE_BYTES.replace(b"     2     0\n", b"     2    0 \n"), 2, 2, "a number at the left of its field")
-table(SAMPLE_BYTES.replace(b"     2     0\n", b"     2      \n"), 2, 2, "a field of blanks")
-table(SAMPLE_BYTES.replace(b"     2     0\n", b"     2    -1\n"), 2, 2, "a sign")
-table(SAMPLE_BYTES.replace(b"     2     0\n", b"     2     0\r\n"), 2, 2, "byte 13")
-table(SAMPLE_BYTES.replace(b"     2     0\n", b"     2     \x00\n"), 2, 2, "byte 0")
-table(SAMPLE_BYTES.replace(b"     2     0\n", b"     2     0     0\n"), 2, 2, "a field too many")
-table(SAMPLE_BYTES.replace(b"     2     0\n", b"     2\n"), 2, 2, "a field too few")
-table(SAMPLE_BYTES.replace(b"     2     0\n", b"     2    0\n"), 2, 2, "a column too few")
-table(SAMPLE_BYTES.replace(b"     2     0\n", b"     2      0\n"), 2, 2, "a column too many")
-table(SAMPLE_BYTES.replace(b"     2     0\n", b"     21000000\n"), 2, 2, "seven digits")
+table(nobody(b"    02           0\n"), 2, 2, "a leading zero of the kind")
+table(nobody(b"     2          00\n"), 2, 2, "two zeros")
+table(nobody(b"     2         0 0\n"), 2, 2, "two numbers in a field")
+table(nobody(b"     2\t          0\n"), 2, 2, "a tab")
+table(nobody(b"     2          0 \n"), 2, 2, "a number that is not at the right of its field")
+table(nobody(b"     2            \n"), 2, 2, "a field of blanks")
+table(nobody(b"     2          -1\n"), 2, 2, "a sign")
+table(nobody(b"     2           0\r\n"), 2, 2, "byte 13")
+table(nobody(b"     2           \x00\n"), 2, 2, "byte 0")
+table(nobody(b"     2           0     0\n"), 2, 2, "a field too many")
+table(nobody(b"     2\n"), 2, 2, "a field too few")
+table(nobody(b"     2          0\n"), 2, 2, "a column too few")
+table(nobody(b"     2            0\n"), 2, 2, "a column too many")
+table(nobody(b"     21000000000000\n"), 2, 2, "thirteen digits")
 table(lines((1, 2, 1, 3, 2, 2, 0)), 2, 1, "seven fields")
 table(lines(*(SAMPLE[:11] + [SAMPLE[8]] + SAMPLE[11:])), 2, 12, "a line 7 after a line 8")
 table(lines(*(SAMPLE[:8] + [SAMPLE[5]] + SAMPLE[8:])), 2, 9, "a line 5 after a line 6")
@@ -392,6 +403,55 @@ cases.append(({"table": b"", "text": b"x"}, (2, 1, 1, 1), "2 of the table before
 cases.append(({"table": small(starting=[(1, 1, 2, 1, 1)]), "text": b"!" * 401}, (7, 1, 0, 1), "7 before 1 of the text"))
 # what cannot be read counts as empty
 text(FOLDER, 11, 1, "a folder in the place of the text")
+# document 02's ten digits: what is read
+table(small(constants=(1000000,)), why="an identifier of seven digits")
+table(small(constants=(999999999,)), why="nine digits")
+table(small(constants=(1000000000,)), why="ten digits")
+table(small(constants=(4294967295,)), why="the largest identifier")
+table(small(constants=(4294967294, 4294967295)), why="the two largest identifiers")
+# 2: the width of line 2, and of others
+table(nobody(b"     2          07\n"), 2, 2, "a leading zero of the identifier")
+table(nobody(b"     2000000000007\n"), 2, 2, "an identifier filled with zeros")
+table(nobody(b"     2     0     0\n"), 2, 2, "two numbers in the identifier's field, six columns each")
+table(nobody(b"     27           \n"), 2, 2, "a number at the left of its field")
+table(nobody(b"     2          +1\n"), 2, 2, "a plus sign")
+table(nobody(b"     2     0\n"), 2, 2, "line 2 in the old width")
+table(nobody(b"     2999999\n"), 2, 2, "six digits in the old width")
+table(nobody(b"           2           0\n"), 2, 2, "a kind as wide as an identifier")
+table(sample(3).replace(b"     3     1\n", b"     3           1\n"), 2, 3, "a line 3 as wide as a line 2")
+table(SAMPLE_BYTES.replace(b"     4     1\n", b"     4           1\n"), 2, 5, "a line 4 as wide as a line 2")
+table(small(constants=(7,)).replace(b"     1     1     1     1     1     0\n", b"     1     1           1     1     1     0\n"), 2, 1, "a wide field in line 1")
+# 4
+table(small(constants=(4294967295, 4294967294)), 4, 3, "the two largest, falling")
+table(small(constants=(4294967295, 4294967295)), 4, 3, "the largest twice")
+# 5, and what comes before it
+table(small(constants=(4294967296,)), 5, 2, "an identifier one too large")
+table(small(constants=(4294967303,)), 5, 2, "an identifier that is 7 in 32 bits")
+table(small(constants=(9999999999,)), 5, 2, "the largest number of ten digits")
+table(small(constants=(10000000000,)), 5, 2, "eleven digits")
+table(small(constants=(999999999999,)), 5, 2, "twelve digits that touch the kind's field")
+table(small(constants=(5, 4294967303)), 5, 3, "7 in 32 bits after 5")
+table(small(constants=(7, 4294967303)), 5, 3, "7 in 32 bits after 7: 5 before 4")
+table(small(constants=(4294967295, 4294967296)), 5, 3, "one too large after the largest")
+table(small(constants=(4294967296, 4294967297)), 5, 2, "two too large: the first")
+table(small(constants=(4294967296, 3)), 5, 2, "one too large, and then a smaller one")
+table(nobody(constant(4294967296).encode()), 2, 2, "too large, and no byte 10 behind it")
+table(lines(SAMPLE[0]) + constant(4294967296).encode(), 2, 2, "too large, and no byte 10 at the end of the file")
+table(nobody(constant(4294967296).encode() + b"     0\n"), 2, 2, "too large, and a third field")
+table(nobody(constant(4294967296).encode() + b"           0\n"), 2, 2, "too large, and a third field of twelve columns")
+table(nobody(constant(0).encode() + b"\n" + constant(4294967296).encode() + b"\n"), 2, 3, "too large, and a line 2 too many")
+table(lines((1, 0, 0, 1, 1, 0)) + constant(4294967296).encode() + b"\n", 2, 2, "too large where no constant is declared")
+table(lines((1, 0, 2, 1, 1, 0), (2, 4294967296), (2, 0, 0)), 5, 2, "5 at its line before 2 at the next")
+table(lines((1, 0, 3, 1, 1, 0), (2, 4294967296)), 3, 1, "3 at line 1 before 5 at line 2")
+# targets and questions have no line 2
+target(lines((4, 3), (2, 7)), 2, 2, "a line 2")
+target(lines((4, 3)) + b"     2     7\n", 2, 2, "a line 2 in six columns")
+target(lines((2, 4294967296)), 2, 1, "a line 2 first, its number too large")
+target(b"     4           3\n", 2, 1, "a line 4 as wide as a line 2 of a table")
+question(lines((2, 1, 2)), why="a row of kind 2 has six columns a field")
+question(b"     2           1\n", 2, 1, "a row of kind 2 as a line 2 of a table")
+question(b"     2     1           2\n", 2, 1, "a row of kind 2 with a wide field")
+question(b"     2  4294967296\n", 5, 1, "a row of kind 2 whose fields are 4294 and 967296")
 
 
 def write(path, content):

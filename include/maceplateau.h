@@ -16,7 +16,7 @@
  *       2  layout      a field or line not as the format has it, a line missing or too many
  *       3  size        a count in line 1 outside its range
  *       4  order       constants, or registers of one arc's lines 8, not rising
- *       5  range       another number outside its range, or an unused field not 0
+ *       5  range       another number outside its range, as an identifier above 4,294,967,295, or an unused field not 0
  *       6  crowded     a ninth condition
  *       7  no start    start conditions that no contents meet
  *       8  forward     a question's row that names row 0, itself or a later one

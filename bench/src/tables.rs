@@ -15,12 +15,21 @@ fn line(bytes: &mut Vec<u8>, numbers: &[usize]) {
     bytes.push(10);
 }
 
-/// Lines written with single spaces, separated by semicolons, set in columns.
+/// A table's line 2: the identifier stands in twelve columns.
+fn constant(bytes: &mut Vec<u8>, identifier: usize) {
+    bytes.extend(format!("{:6}{identifier:12}\n", 2).bytes());
+}
+
+/// Lines written with single spaces, separated by semicolons, set in columns. Two numbers of which the first is 2 are a
+/// constant: a question's rows have three.
 pub fn columns(text: &str) -> Vec<u8> {
     let mut bytes = Vec::new();
     for part in text.split(';') {
         let numbers: Vec<usize> = part.split_whitespace().map(|w| w.parse().expect("a number")).collect();
-        line(&mut bytes, &numbers);
+        match numbers[..] {
+            [2, identifier] => constant(&mut bytes, identifier),
+            _ => line(&mut bytes, &numbers),
+        }
     }
     bytes
 }
@@ -65,7 +74,7 @@ impl Flow<'_> {
             &[1, self.registers, self.constants.len(), self.places, 4, self.arcs.len()],
         );
         for &c in self.constants {
-            line(&mut bytes, &[2, c]);
+            constant(&mut bytes, c);
         }
         for arity in 0..4 {
             line(&mut bytes, &[3, arity]);
@@ -300,7 +309,7 @@ pub fn mix() -> Vec<Case> {
             "certified",
             Flow {
                 registers: 4,
-                constants: &[0, 1],
+                constants: &[0, 4_294_967_295],
                 places: 10,
                 start: "r1=c1 r2=c1 r3=c1 r4=c1",
                 arcs: &[

@@ -8,6 +8,8 @@ use engine::generate::{case, Shape};
 use engine::mutate::mutate;
 use engine::random::Random;
 use engine::{answer, texts, write};
+use std::fs;
+use std::path::Path;
 
 fn narrow(list: &[u32]) -> Vec<u16> {
     list.iter().map(|&x| x as u16).collect()
@@ -105,6 +107,26 @@ fn damaged_files() {
         }
     }
     assert!(seen[1..].iter().all(|&n| n > 0), "{seen:?}");
+}
+
+/// The boundary cases of reading: both judge them alike.
+#[test]
+fn boundaries() {
+    let data = Path::new(env!("CARGO_MANIFEST_DIR")).join("../crates/test_reading/data");
+    let mut tried = 0;
+    for entry in fs::read_dir(&data).expect("the data") {
+        let path = entry.expect("an entry").path();
+        if path.extension() != Some("table".as_ref()) {
+            continue;
+        }
+        let part = |kind: &str| fs::read(path.with_extension(kind)).unwrap_or_default();
+        let what = path.display().to_string();
+        compare_reach(&part("table"), &part("target"), &what);
+        compare_ask(&part("table"), &part("question"), &what);
+        compare_ask_text(&part("table"), &part("text"), &what);
+        tried += 1;
+    }
+    assert!(tried > 300, "{tried}");
 }
 
 #[test]

@@ -121,8 +121,13 @@ pub fn counter(random: &mut Random, registers: usize, further: usize, wide: bool
     for i in (1..arcs.len()).rev() {
         arcs.swap(i, random.below(i + 1));
     }
-    let low = random.below(20) as u32;
-    let high = low + 1 + random.below(20) as u32;
+    // Small constants, or the two largest.
+    let low = if random.percent(75) {
+        random.below(20) as u32
+    } else {
+        u32::MAX - 1
+    };
+    let high = low + 1 + random.below(20).min((u32::MAX - 1 - low) as usize) as u32;
     let all = |value: Term| {
         (1..=registers)
             .map(|r| same(Term::Register(r), value))

@@ -50,14 +50,25 @@ fn term(random: &mut Random, s: &Scope) -> Option<Term> {
     })
 }
 
+/// An identifier of so many digits, one to ten.
+fn identifier(random: &mut Random, digits: u32) -> u32 {
+    let least = if digits == 1 { 0 } else { 10usize.pow(digits - 1) };
+    let most = (10usize.pow(digits) - 1).min(u32::MAX as usize);
+    random.between(least, most) as u32
+}
+
+/// Rising constants: all small, so that runs use the identifiers beside them, or of any length; the two largest now and then.
 fn constants(random: &mut Random, count: usize) -> Vec<u32> {
-    let top = *random.pick(&[3, 6, 15, 17, 40, 1_000_000]);
+    let small = *random.pick(&[Some(3), Some(6), Some(15), Some(17), Some(40), None, None]);
     let mut found: Vec<u32> = Vec::new();
     while found.len() < count {
-        let c = if random.percent(5) {
-            999_999
-        } else {
-            random.below(top) as u32
+        let c = match (random.below(12), small) {
+            (0, _) => u32::MAX - random.below(2) as u32,
+            (_, Some(top)) => random.below(top) as u32,
+            (_, None) => {
+                let digits = random.between(1, 10) as u32;
+                identifier(random, digits)
+            }
         };
         if !found.contains(&c) {
             found.push(c);

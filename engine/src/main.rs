@@ -87,7 +87,7 @@ fn successors(table: &Path, configuration: usize, method: Option<Method>) -> Str
 }
 
 /// Calls on contents, classes or matrices alone: 1 and the numbers, or 2 and the refusal, with
-/// single spaces (the numbers may have more than six digits).
+/// single spaces.
 fn alone(call: &str, words: &[&str]) -> Option<String> {
     let parts: Vec<Vec<u32>> = words
         .split(|&w| w == "/")

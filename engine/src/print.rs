@@ -1,4 +1,4 @@
-//! Printouts of document 01 in six-column fields; the full form; digests.
+//! Printouts of document 01, identifiers as document 02 (W2) has them; the full form; digests.
 
 use crate::answer::{Asked, Reached};
 use crate::read::Refusal;
@@ -15,8 +15,15 @@ pub enum Form {
     Digest,
 }
 
+/// A line of numbers in fields of six columns.
 pub fn fields(numbers: &[usize]) -> String {
+    with_identifiers(numbers, &[])
+}
+
+/// A line of numbers in fields of six columns, then identifiers in fields of twelve.
+pub fn with_identifiers(numbers: &[usize], identifiers: &[u32]) -> String {
     let mut line: String = numbers.iter().map(|n| format!("{n:6}")).collect();
+    line.extend(identifiers.iter().map(|n| format!("{n:12}")));
     line.push('\n');
     line
 }
@@ -78,8 +85,8 @@ pub fn reached(form: Form, answer: &Result<Reached, Refusal>) -> String {
     if form == Form::Fields {
         let mut text = fields(&[a.reached as usize, a.steps, a.count]);
         for m in moments(a).chunks(12) {
-            let line: Vec<usize> = m[1..=m[0] as usize].iter().map(|&x| x as usize).collect();
-            text.push_str(&fields(&line));
+            let (numbers, identifiers) = m[1..=m[0] as usize].split_at(3);
+            text.push_str(&with_identifiers(&[0, 1, 2].map(|i| numbers[i] as usize), identifiers));
         }
         return text;
     }
@@ -100,12 +107,11 @@ pub fn asked(form: Form, answer: &Result<Asked, Refusal>) -> String {
         Err(r) => return refused(form, r),
     };
     if form == Form::Fields {
-        let mut line = vec![a.yes as usize];
-        if !a.yes {
-            line.push(a.class);
-            line.extend(a.contents.iter().map(|&x| x as usize));
-        }
-        return fields(&line);
+        return if a.yes {
+            fields(&[1])
+        } else {
+            with_identifiers(&[0, a.class], &a.contents)
+        };
     }
     let v = a.yes as u32;
     let mut text = format!("code {v}\nverdict {v}\n");

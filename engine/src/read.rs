@@ -1,4 +1,4 @@
-//! Reading of tables, targets and questions with document 01's refusals.
+//! Reading of tables, targets and questions with document 01's refusals, identifiers as document 02 (W2) has them.
 
 use crate::meaning::some_contents;
 use crate::table::{Arc, Condition, Row, Table, Target, Term};
@@ -6,6 +6,9 @@ use crate::table::{Arc, Condition, Row, Table, Target, Term};
 pub const TABLE_BYTES: usize = 40_000;
 pub const TARGET_BYTES: usize = 309;
 pub const QUESTION_BYTES: usize = 608;
+/// The columns of a field, and of the one that holds a constant's identifier.
+pub const COLUMNS: usize = 6;
+pub const IDENTIFIER_COLUMNS: usize = 12;
 
 /// What is turned back: number, file (1 table, 2 the other, 0 none), line (0 where none is named).
 #[derive(Clone, Copy, Debug, PartialEq, Eq)]
@@ -47,9 +50,9 @@ impl<'a> Lines<'a> {
     }
 
     /// The first field of the next line, if the line is there and the field is well written.
-    fn peek_kind(&self) -> Option<u32> {
+    fn peek_kind(&self) -> Option<u64> {
         let (line, _) = self.lines.get(self.taken)?;
-        number(line.get(0..6)?)
+        number(line.get(0..COLUMNS)?)
     }
 
     /// A refusal at the line that would be taken next (the line after the last, if none is left).
@@ -70,43 +73,46 @@ impl<'a> Lines<'a> {
         }
     }
 
-    /// Takes the next line, which must have exactly so many fields.
-    fn take(&mut self, fields: usize) -> Result<Vec<u32>, Refusal> {
+    /// Takes the next line, which must have exactly these fields, each of so many columns.
+    fn take(&mut self, fields: &[usize]) -> Result<Vec<u64>, Refusal> {
         let layout = self.refuse_next(2);
         let &(line, ended) = self.lines.get(self.taken).ok_or(layout)?;
-        if !ended || line.len() != 6 * fields {
+        if !ended || line.len() != fields.iter().sum::<usize>() {
             return Err(layout);
         }
         let mut values = Vec::new();
-        for field in line.chunks(6) {
+        let mut rest = line;
+        for &columns in fields {
+            let (field, behind) = rest.split_at(columns);
             values.push(number(field).ok_or(layout)?);
+            rest = behind;
         }
         self.taken += 1;
         Ok(values)
     }
 
     /// Takes the next line, which must be of this kind; gives the further fields.
-    fn take_kind(&mut self, kind: u32, further: usize) -> Result<Vec<u32>, Refusal> {
+    fn take_kind(&mut self, kind: u64, further: &[usize]) -> Result<Vec<u64>, Refusal> {
         if self.peek_kind() != Some(kind) {
             return Err(self.refuse_next(2));
         }
-        let mut values = self.take(further + 1)?;
+        let mut values = self.take(&[&[COLUMNS], further].concat())?;
         values.remove(0);
         Ok(values)
     }
 
     /// The value as a number from low to high, else this refusal at the line taken last.
-    fn within(&self, value: u32, low: usize, high: usize, refusal: u32) -> Result<usize, Refusal> {
-        let value = value as usize;
-        if value < low || value > high {
+    fn within(&self, value: u64, low: usize, high: usize, refusal: u32) -> Result<usize, Refusal> {
+        if value < low as u64 || value > high as u64 {
             return Err(self.refuse(refusal));
         }
-        Ok(value)
+        Ok(value as usize)
     }
 }
 
-/// A number right-justified in its field: spaces, then digits without a leading zero.
-fn number(field: &[u8]) -> Option<u32> {
+/// A number right-justified in its field: spaces, then digits without a leading zero. Twelve digits are more than
+/// 32 bits hold: which numbers are in range is said afterwards.
+fn number(field: &[u8]) -> Option<u64> {
     let text = std::str::from_utf8(field).ok()?;
     let digits = text.trim_start_matches(' ');
     if digits.is_empty() || !digits.bytes().all(|b| b.is_ascii_digit()) {
@@ -126,7 +132,7 @@ struct Scope {
     constants: usize,
 }
 
-fn term(lines: &Lines, scope: &Scope, kind: u32, number: u32) -> Result<Term, Refusal> {
+fn term(lines: &Lines, scope: &Scope, kind: u64, number: u64) -> Result<Term, Refusal> {
     match (kind, scope.parameters) {
         (1, _) => Ok(Term::Register(lines.within(number, 1, scope.registers, 5)?)),
         (2, Some(parameters)) => Ok(Term::Parameter(lines.within(number, 1, parameters, 5)?)),
@@ -136,10 +142,10 @@ fn term(lines: &Lines, scope: &Scope, kind: u32, number: u32) -> Result<Term, Re
 }
 
 /// Lines 5 or lines 7: as many as stand here, the ninth refused.
-fn conditions(lines: &mut Lines, kind: u32, scope: &Scope) -> Result<Vec<Condition>, Refusal> {
+fn conditions(lines: &mut Lines, kind: u64, scope: &Scope) -> Result<Vec<Condition>, Refusal> {
     let mut found = Vec::new();
     while lines.peek_kind() == Some(kind) {
-        let v = lines.take_kind(kind, 5)?;
+        let v = lines.take_kind(kind, &[COLUMNS; 5])?;
         if found.len() == 8 {
             return Err(lines.refuse(6));
         }
@@ -152,7 +158,7 @@ fn conditions(lines: &mut Lines, kind: u32, scope: &Scope) -> Result<Vec<Conditi
 }
 
 fn arc(lines: &mut Lines, registers: usize, constants: usize, places: usize, arity: &[usize]) -> Result<Arc, Refusal> {
-    let v = lines.take_kind(6, 3)?;
+    let v = lines.take_kind(6, &[COLUMNS; 3])?;
     let from = lines.within(v[0], 1, places, 5)?;
     let action = lines.within(v[1], 1, arity.len(), 5)?;
     let to = lines.within(v[2], 1, places, 5)?;
@@ -164,7 +170,7 @@ fn arc(lines: &mut Lines, registers: usize, constants: usize, places: usize, ari
     let conditions = conditions(lines, 7, &scope)?;
     let mut sets: Vec<(usize, Term)> = Vec::new();
     while lines.peek_kind() == Some(8) {
-        let v = lines.take_kind(8, 3)?;
+        let v = lines.take_kind(8, &[COLUMNS; 3])?;
         let register = lines.within(v[0], 1, registers, 5)?;
         let value = term(lines, &scope, v[1], v[2])?;
         if sets.last().is_some_and(|&(before, _)| before >= register) {
@@ -183,7 +189,7 @@ fn arc(lines: &mut Lines, registers: usize, constants: usize, places: usize, ari
 
 pub fn read_table(bytes: &[u8]) -> Result<Table, Refusal> {
     let mut lines = Lines::new(1, bytes, TABLE_BYTES)?;
-    let v = lines.take_kind(1, 5)?;
+    let v = lines.take_kind(1, &[COLUMNS; 5])?;
     let registers = lines.within(v[0], 0, 5, 3)?;
     let constant_count = lines.within(v[1], 0, 2, 3)?;
     let places = lines.within(v[2], 1, 16, 3)?;
@@ -191,7 +197,8 @@ pub fn read_table(bytes: &[u8]) -> Result<Table, Refusal> {
     let arc_count = lines.within(v[4], 0, 64, 3)?;
     let mut constants: Vec<u32> = Vec::new();
     for _ in 0..constant_count {
-        let identifier = lines.take_kind(2, 1)?[0];
+        let v = lines.take_kind(2, &[IDENTIFIER_COLUMNS])?;
+        let identifier = u32::try_from(v[0]).map_err(|_| lines.refuse(5))?;
         if constants.last().is_some_and(|&before| before >= identifier) {
             return Err(lines.refuse(4));
         }
@@ -199,10 +206,10 @@ pub fn read_table(bytes: &[u8]) -> Result<Table, Refusal> {
     }
     let mut arity = Vec::new();
     for _ in 0..actions {
-        let v = lines.take_kind(3, 1)?;
+        let v = lines.take_kind(3, &[COLUMNS])?;
         arity.push(lines.within(v[0], 0, 3, 5)?);
     }
-    let v = lines.take_kind(4, 1)?;
+    let v = lines.take_kind(4, &[COLUMNS])?;
     let start = lines.within(v[0], 1, places, 5)?;
     let scope = Scope {
         registers,
@@ -237,7 +244,7 @@ pub fn read_table(bytes: &[u8]) -> Result<Table, Refusal> {
 
 pub fn read_target(table: &Table, bytes: &[u8]) -> Result<Target, Refusal> {
     let mut lines = Lines::new(2, bytes, TARGET_BYTES)?;
-    let v = lines.take_kind(4, 1)?;
+    let v = lines.take_kind(4, &[COLUMNS])?;
     let place = lines.within(v[0], 1, table.places, 5)?;
     let scope = Scope {
         registers: table.registers,
@@ -264,7 +271,7 @@ pub fn read_question(table: &Table, bytes: &[u8]) -> Result<Vec<Row>, Refusal> {
     let mut lines = Lines::new(2, bytes, QUESTION_BYTES)?;
     let mut rows: Vec<Row> = Vec::new();
     while rows.is_empty() || !lines.at_end() {
-        let v = lines.take(3)?;
+        let v = lines.take(&[COLUMNS; 3])?;
         let kind = lines.within(v[0], 1, 14, 5)?;
         let names = match kind {
             1 => [Names::Place, Names::Nothing],

@@ -11,7 +11,7 @@ pub mod random;
 pub mod replayer;
 pub mod steps;
 
-use crate::print::fields;
+use crate::print::{fields, with_identifiers};
 use crate::random::Random;
 use crate::read::Refusal;
 use std::fs;
@@ -82,8 +82,13 @@ fn refusal_numbers(r: &Refusal) -> [u32; 3] {
     [r.number, r.file, r.line]
 }
 
+/// Lines of a table, a target or a question. Only a table has lines of two numbers whose kind is 2: its constants.
 fn concat_lines(lines: &[&[usize]]) -> Vec<u8> {
-    lines.iter().map(|l| fields(l)).collect::<String>().into_bytes()
+    let line = |l: &[usize]| match *l {
+        [2, identifier] => with_identifiers(&[2], &[identifier as u32]),
+        _ => fields(l),
+    };
+    lines.iter().map(|l| line(l)).collect::<String>().into_bytes()
 }
 
 /// Document 01's sample, its sixteen lines.

@@ -1,5 +1,6 @@
 //! Tables, targets and questions written as files.
 
+use crate::print::with_identifiers;
 use crate::table::{Condition, Row, Table, Target, Term};
 
 fn term(t: Term) -> [usize; 2] {
@@ -28,7 +29,7 @@ pub fn table(t: &Table) -> Vec<u8> {
         &[1, t.registers, t.constants.len(), t.places, t.arity.len(), t.arcs.len()],
     );
     for &c in &t.constants {
-        line(&mut text, &[2, c as usize]);
+        text.push_str(&with_identifiers(&[2], &[c]));
     }
     for &a in &t.arity {
         line(&mut text, &[3, a]);

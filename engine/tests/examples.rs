@@ -7,12 +7,14 @@ use engine::print::{asked, reached, replayed, Form};
 use engine::read::{read_question, read_table, read_target, Refusal};
 use engine::replay::{replay, Replayed};
 
-/// Lines with single spaces, set in columns.
+/// Lines with single spaces, set in columns: twelve for the identifier of a table's line 2, else six.
 fn file(lines: &[&str]) -> Vec<u8> {
     let mut text = String::new();
     for line in lines {
-        for field in line.split(' ') {
-            text.push_str(&format!("{field:>6}"));
+        let fields: Vec<&str> = line.split(' ').collect();
+        match fields[..] {
+            ["2", identifier] => text.push_str(&format!("     2{identifier:>12}")),
+            _ => fields.iter().for_each(|field| text.push_str(&format!("{field:>6}"))),
         }
         text.push('\n');
     }
@@ -52,8 +54,13 @@ const METHODS: [Option<Method>; 3] = [None, Some(Method::Pool), Some(Method::Cla
 fn the_printout() {
     for method in METHODS {
         let answer = reach(&sample(), &file(&["4 3"]), method);
-        let expected = "     1     2     3\n     0     0     1     0     0\n     1     1     2     1     0     1\n     2     2     3     1     2     2\n";
-        assert_eq!(reached(Form::Fields, &answer), expected);
+        let expected = [
+            "     1     2     3\n",
+            "     0     0     1           0           0\n",
+            "     1     1     2           1           0           1\n",
+            "     2     2     3           1           2           2\n",
+        ];
+        assert_eq!(reached(Form::Fields, &answer), expected.concat());
         let a = answer.unwrap();
         assert_eq!(a.words[0], 16_513);
         assert_eq!(a.words[1..].iter().sum::<u32>(), 0);
@@ -157,7 +164,7 @@ fn equal_registers() {
 fn questions() {
     for method in METHODS {
         let no = ask(&sample(), &file(&["2 1 1", "8 1 0"]), method);
-        assert_eq!(asked(Form::Fields, &no), "     0     0     0     0\n");
+        assert_eq!(asked(Form::Fields, &no), "     0     0           0           0\n");
         let yes = ask(&sample(), &file(&["1 3 0", "14 1 0"]), method);
         assert_eq!(asked(Form::Fields, &yes), "     1\n");
         let rows = yes.unwrap().rows;
@@ -186,7 +193,7 @@ fn habits() {
     let answer = reach(&table, &file(&["4 2", "5 1 1 2 3 1"]), None);
     assert_eq!(
         reached(Form::Fields, &answer),
-        "     1     1     3\n     0     0     1     0\n     1     1     2     1\n"
+        "     1     1     3\n     0     0     1           0\n     1     1     2           1\n"
     );
     assert_eq!(
         asked(Form::Fields, &ask(&table, &file(&["1 2 0", "8 1 0", "4 2 0"]), None)),
@@ -194,7 +201,7 @@ fn habits() {
     );
     assert_eq!(
         asked(Form::Fields, &ask(&table, &file(&["1 1 0", "11 1 0"]), None)),
-        "     0     0     0\n"
+        "     0     0           0\n"
     );
     assert_eq!(
         asked(Form::Fields, &ask(&table, &file(&["1 1 0", "11 1 0", "11 2 0"]), None)),
@@ -243,7 +250,7 @@ fn limits() {
     let none = reach(&sample(), &file(&["4 1"]), None);
     assert_eq!(
         reached(Form::Fields, &none),
-        "     1     0     3\n     0     0     1     0     0\n"
+        "     1     0     3\n     0     0     1           0           0\n"
     );
     assert_eq!(none.unwrap().run, [0; 5]);
 }
@@ -336,9 +343,127 @@ fn layout() {
     assert_eq!(ending(b" "), line(4));
     assert_eq!(ending(&vec![b' '; 40_000 - good.len()]), line(4));
     assert_eq!(ending(&vec![b' '; 40_001 - good.len()]), Err(refusal(1, 1, 0)));
-    // Adjacent six-digit numbers need no space between them.
-    let wide = b"     1     0     2     1     1     0\n     2999998\n     2999999\n     3     0\n     4     1\n";
-    assert_eq!(read_table(wide).unwrap().constants, [999_998, 999_999]);
+}
+
+/// A table with these lines 2.
+fn with_constants(count: usize, lines: &str) -> Result<Vec<u32>, Refusal> {
+    let text = format!("     1     1{count:6}     1     1     0\n{lines}     3     0\n     4     1\n");
+    read_table(text.as_bytes()).map(|t| t.constants)
+}
+
+#[test]
+fn identifiers() {
+    let one = |number: &str| with_constants(1, &format!("     2{number:>12}\n"));
+    for number in [
+        0,
+        9,
+        999_999,
+        1_000_000,
+        999_999_999,
+        1_000_000_000,
+        u32::MAX - 1,
+        u32::MAX,
+    ] {
+        assert_eq!(one(&number.to_string()), Ok(vec![number]));
+    }
+    // Beyond 32 bits: the layout is right, and the number is not taken for what 32 bits leave of it.
+    for number in ["4294967296", "4294967303", "9999999999", "10000000000", "999999999999"] {
+        assert_eq!(one(number), Err(refusal(5, 1, 2)), "{number}");
+        // 5 before 4, whatever stands before.
+        for before in ["0", "5", "4294967295"] {
+            let lines = format!("     2{before:>12}\n     2{number:>12}\n");
+            assert_eq!(with_constants(2, &lines), Err(refusal(5, 1, 3)), "{lines}");
+        }
+        // 2 before 5: no byte 10, a third field of either width, a field too wide, a line too many.
+        for line in [
+            format!("     2{number:>12}"),
+            format!("     2{number:>12}     0\n"),
+            format!("     2{number:>12}           0\n"),
+            format!("     2{number:>13}\n"),
+        ] {
+            assert_eq!(with_constants(1, &line), Err(refusal(2, 1, 2)), "{line}");
+        }
+        assert_eq!(
+            with_constants(0, &format!("     2{number:>12}\n")),
+            Err(refusal(2, 1, 2))
+        );
+        assert_eq!(
+            with_constants(1, &format!("     2           1\n     2{number:>12}\n")),
+            Err(refusal(2, 1, 3))
+        );
+    }
+    let two = |a: u32, b: u32| with_constants(2, &format!("     2{a:12}\n     2{b:12}\n"));
+    assert_eq!(two(u32::MAX - 1, u32::MAX), Ok(vec![u32::MAX - 1, u32::MAX]));
+    assert_eq!(two(u32::MAX, u32::MAX - 1), Err(refusal(4, 1, 3)));
+    assert_eq!(two(u32::MAX, u32::MAX), Err(refusal(4, 1, 3)));
+    // The old width, and what is no number right-justified in twelve columns.
+    for line in [
+        "     2     7\n",
+        "     2999999\n",
+        "     2          07\n",
+        "     2          -7\n",
+        "     2          +7\n",
+        "     27           \n",
+        "     2     7     7\n",
+        "     2            \n",
+        "     21000000000000\n",
+        "     2          7\n",
+        "     2            7\n",
+    ] {
+        assert_eq!(with_constants(1, line), Err(refusal(2, 1, 2)), "{line}");
+    }
+    // No other line is wider than before; a question's row of kind 2 is no line 2.
+    let wide = b"     1     0     0     1     1     0\n     3           0\n     4     1\n";
+    assert_eq!(read_table(wide).unwrap_err(), refusal(2, 1, 2));
+    let table = read_table(&sample()).unwrap();
+    assert!(read_question(&table, b"     2     1     2\n").is_ok());
+    assert_eq!(
+        read_question(&table, b"     2     1           2\n").unwrap_err(),
+        refusal(2, 2, 1)
+    );
+    for line in ["     2           7\n", "     2     7\n"] {
+        let target = format!("     4     3\n{line}");
+        assert_eq!(read_target(&table, target.as_bytes()).unwrap_err(), refusal(2, 2, 2));
+    }
+}
+
+/// Constants as large as can be: no marker of the engine's own is taken for one of them.
+#[test]
+fn largest_constants() {
+    let table = file(&[
+        "1 2 2 3 2 2",
+        "2 4294967294",
+        "2 4294967295",
+        "3 1",
+        "3 2",
+        "4 1",
+        "5 1 1 1 3 2",
+        "5 1 2 2 3 1",
+        "5 1 2 2 3 2",
+        "6 1 1 2",
+        "7 2 1 2 3 1",
+        "7 2 1 2 3 2",
+        "7 2 1 2 1 2",
+        "8 1 2 1",
+        "6 2 2 3",
+        "7 2 1 1 3 2",
+        "8 1 2 1",
+        "8 2 3 1",
+    ]);
+    for method in METHODS {
+        let answer = reach(&table, &file(&["4 3"]), method);
+        // Register 2 is free after arc 1: the first constant comes first in the order of classes.
+        let expected = [
+            "     1     2     6\n",
+            "     0     0     1  4294967295           0\n",
+            "     1     1     2           1  4294967294           1\n",
+            "     2     2     3  4294967295  4294967294  4294967295           0\n",
+        ];
+        assert_eq!(reached(Form::Fields, &answer), expected.concat());
+        assert_eq!(replay(&table, &answer.unwrap().run), Ok(Replayed::Good));
+        let no = ask(&table, &file(&["3 1 2", "13 1 0"]), method);
+        assert_eq!(asked(Form::Fields, &no), "     0     5  4294967295           0\n");
+    }
 }
 
 #[test]

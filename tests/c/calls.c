@@ -8,7 +8,7 @@
 /* Register 1 translator, 2 reviser, constant 0 nobody. */
 static const char sample[] =
     "     1     2     1     3     2     2\n"
-    "     2     0\n"
+    "     2           0\n"
     "     3     1\n"
     "     3     1\n"
     "     4     1\n"
@@ -86,12 +86,19 @@ static void ask_text(const char *what, uint32_t reply, const char *table, const 
 
 int main(void)
 {
-    char damaged[sizeof sample], sized[sizeof sample];
+    char damaged[sizeof sample], sized[sizeof sample], largest[sizeof sample], larger[sizeof sample], narrow[sizeof sample];
     static char overlong[40001];
     memcpy(damaged, sample, sizeof sample);
     damaged[sizeof sample - 2] = ' ';
     memcpy(sized, sample, sizeof sample);
     sized[11] = '6';
+    /* The identifier's ten digits end at byte 54; in the old width line 2 ends six bytes earlier. */
+    memcpy(largest, sample, sizeof sample);
+    memcpy(largest + 45, "4294967295", 10);
+    memcpy(larger, largest, sizeof sample);
+    larger[54] = '6';
+    memcpy(narrow, sample, 43);
+    memcpy(narrow + 43, sample + 49, sizeof sample - 49);
     memset(overlong, ' ', sizeof overlong);
     char nots[402];
     memset(nots, '!', sizeof nots);
@@ -112,6 +119,11 @@ int main(void)
     expect("reach, an overlong table", 101, maceplateau_reach, overlong, sizeof overlong, place_3, strlen(place_3));
     expect("ask, an overlong question", 101, maceplateau_ask, sample, strlen(sample), overlong, 609);
     reach("six registers", 103, sized, place_3);
+    reach("the largest identifier", 1, largest, place_3);
+    ask("ask, the largest identifier", 1, largest, at_last_place_3);
+    reach("an identifier too large", 105, larger, place_3);
+    ask("ask, an identifier too large", 105, larger, at_last_place_3);
+    reach("line 2 in the old width", 102, narrow, place_3);
     reach("place 4 of 3", 105, sample, place_4);
     ask("a row that names itself", 108, sample, names_itself);
 
@@ -120,6 +132,7 @@ int main(void)
     ask_text("E U", 1, sample, "E(r2=c1UL3)");
     ask_text("a text, a damaged table", 102, damaged, "AFL3");
     ask_text("a text, six registers", 103, sized, "x");
+    ask_text("a text, an identifier too large", 105, larger, "x");
     ask_text("place 4 of 3, as text", 105, sample, "AFL4");
     ask_text("an empty text", 111, sample, "");
     ask_text("a line end behind a text", 111, sample, "AFL3\n");

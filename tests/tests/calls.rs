@@ -208,6 +208,63 @@ fn wrong_bytes() {
     });
 }
 
+/// Lines 2 at the limits of an identifier and of its columns, as the first and as the second constant.
+#[test]
+fn identifiers() {
+    on_stack(|| {
+        let numbers: [u64; 14] = [
+            0,
+            7,
+            999_999,
+            1_000_000,
+            2_147_483_647,
+            2_147_483_648,
+            4_294_967_294,
+            4_294_967_295,
+            4_294_967_296,
+            4_294_967_303,
+            8_589_934_591,
+            9_999_999_999,
+            10_000_000_000,
+            999_999_999_999,
+        ];
+        let [target, question] = [&[4, 1][..], &[1, 1, 0]].map(|l| fields(l).into_bytes());
+        let mut seen = [0; 6];
+        let mut try_lines = |constants: usize, lines: &str| {
+            let table = fields(&[1, 1, constants, 1, 1, 0]) + lines + &fields(&[3, 0]) + &fields(&[4, 1]);
+            let [code, _] = compare(table.as_bytes(), &target, &question, lines);
+            seen[code.saturating_sub(100) as usize] += 1;
+        };
+        for a in numbers {
+            for line in [
+                format!("     2{a:12}\n"),
+                format!("     2{a:6}\n"),
+                format!("     2{a:11}\n"),
+                format!("     2{a:13}\n"),
+                format!("     2{a:<12}\n"),
+                format!("     2{a:012}\n"),
+                format!("     2{a:+12}\n"),
+                format!("     2{a:12}"),
+                format!("     2{a:12}     0\n"),
+                format!("     2{a:12}           0\n"),
+                format!("     3{a:12}\n"),
+                format!("           2{a:12}\n"),
+            ] {
+                for constants in 0..=2 {
+                    try_lines(constants, &line);
+                }
+            }
+            for b in numbers {
+                try_lines(2, &format!("     2{a:12}\n     2{b:12}\n"));
+                try_lines(1, &format!("     2{a:12}\n     2{b:12}\n"));
+            }
+        }
+        for number in [0, 2, 4, 5] {
+            assert!(seen[number] > 10, "{seen:?}");
+        }
+    });
+}
+
 /// Questions as text that are read, of up to 32 rows; their rows by the other call give the same.
 #[test]
 fn valid_texts() {

@@ -1,4 +1,4 @@
-//! Files read line by line, with document 01's refusals.
+//! Files read line by line, with document 01's refusals; identifiers as document 02 (W2) has them.
 
 #[derive(Clone, Copy, Debug, PartialEq, Eq)]
 pub struct Refusal {
@@ -56,7 +56,8 @@ struct File<'a> {
     at: usize,
     file: u32,
     line: u32,
-    fields: [u32; 6],
+    /// The numbers of the line taken last: a field of twelve columns may hold more than 32 bits do.
+    fields: [u64; 6],
 }
 
 impl<'a> File<'a> {
@@ -86,9 +87,9 @@ impl<'a> File<'a> {
         self.at == self.bytes.len()
     }
 
-    /// Reads the field that begins at this byte, if it is well written.
-    fn field(&self, at: usize) -> Option<u32> {
-        let field = self.bytes.get(at..at + 6)?;
+    /// Reads the field of so many columns that begins at this byte, if it is well written.
+    fn field(&self, at: usize, columns: usize) -> Option<u64> {
+        let field = self.bytes.get(at..at + columns)?;
         let first = field.iter().position(|&b| b != b' ')?;
         let digits = &field[first..];
         if digits.len() > 1 && digits[0] == b'0' {
@@ -99,26 +100,32 @@ impl<'a> File<'a> {
             if !d.is_ascii_digit() {
                 return None;
             }
-            number = number * 10 + (d - b'0') as u32;
+            number = number * 10 + (d - b'0') as u64;
         }
         Some(number)
     }
 
     /// The kind of the next line, if there is one and its first field is well written.
-    fn next_kind(&self) -> Option<u32> {
-        self.field(self.at)
+    fn next_kind(&self) -> Option<u64> {
+        self.field(self.at, 6)
     }
 
-    /// Takes a line of so many fields.
+    /// Takes a line of so many fields of six columns.
     fn take(&mut self, count: usize) -> Result<(), Refusal> {
+        self.take_columns(count, 6)
+    }
+
+    /// The same where the last field has so many columns.
+    fn take_columns(&mut self, count: usize, last: usize) -> Result<(), Refusal> {
         self.line += 1;
         for i in 0..count {
-            match self.field(self.at + 6 * i) {
+            let columns = if i + 1 == count { last } else { 6 };
+            match self.field(self.at, columns) {
                 Some(number) => self.fields[i] = number,
                 None => return self.refuse(2),
             }
+            self.at += columns;
         }
-        self.at += 6 * count;
         if self.bytes.get(self.at) != Some(&10) {
             return self.refuse(2);
         }
@@ -126,12 +133,12 @@ impl<'a> File<'a> {
         Ok(())
     }
 
-    fn take_kind(&mut self, kind: u32, count: usize) -> Result<(), Refusal> {
+    fn take_kind(&mut self, kind: u64, count: usize, last: usize) -> Result<(), Refusal> {
         if self.next_kind() != Some(kind) {
             self.line += 1;
             return self.refuse(2);
         }
-        self.take(count)
+        self.take_columns(count, last)
     }
 
     /// Field i, which must lie in this range.
@@ -150,7 +157,7 @@ impl<'a> File<'a> {
         Ok([0, PARAMETERS, CONSTANTS][kind - 1] + number - 1)
     }
 
-    fn conditions(&mut self, kind: u32, counts: [usize; 3]) -> Result<Vec<Condition>, Refusal> {
+    fn conditions(&mut self, kind: u64, counts: [usize; 3]) -> Result<Vec<Condition>, Refusal> {
         let mut found = Vec::new();
         while self.next_kind() == Some(kind) {
             self.take(6)?;
@@ -177,7 +184,7 @@ impl<'a> File<'a> {
 /// The table; that some contents meet its start conditions is tested by whoever knows the classes.
 pub fn table(bytes: &[u8]) -> Result<Table, Refusal> {
     let mut f = File::new(bytes, 1, 40_000)?;
-    f.take_kind(1, 6)?;
+    f.take_kind(1, 6, 6)?;
     let registers = f.value(1, 0, 5, 3)?;
     let constant_count = f.value(2, 0, 2, 3)?;
     let places = f.value(3, 1, 16, 3)?;
@@ -185,23 +192,24 @@ pub fn table(bytes: &[u8]) -> Result<Table, Refusal> {
     let arc_count = f.value(5, 0, 64, 3)?;
     let mut constants: Vec<u32> = Vec::new();
     for _ in 0..constant_count {
-        f.take_kind(2, 2)?;
-        if constants.last().is_some_and(|&last| f.fields[1] <= last) {
+        f.take_kind(2, 2, 12)?;
+        let identifier = f.value(1, 0, u32::MAX as usize, 5)? as u32;
+        if constants.last().is_some_and(|&last| identifier <= last) {
             return f.refuse(4);
         }
-        constants.push(f.fields[1]);
+        constants.push(identifier);
     }
     let mut arities = Vec::new();
     for _ in 0..actions {
-        f.take_kind(3, 2)?;
+        f.take_kind(3, 2, 6)?;
         arities.push(f.value(1, 0, 3, 5)?);
     }
-    f.take_kind(4, 2)?;
+    f.take_kind(4, 2, 6)?;
     let start = f.value(1, 1, places, 5)?;
     let starting = f.conditions(5, [registers, 0, constant_count])?;
     let mut arcs = Vec::new();
     for _ in 0..arc_count {
-        f.take_kind(6, 4)?;
+        f.take_kind(6, 4, 6)?;
         let from = f.value(1, 1, places, 5)?;
         let action = f.value(2, 1, actions, 5)?;
         let to = f.value(3, 1, places, 5)?;
@@ -241,7 +249,7 @@ pub fn table(bytes: &[u8]) -> Result<Table, Refusal> {
 
 pub fn target(table: &Table, bytes: &[u8]) -> Result<(usize, Vec<Condition>), Refusal> {
     let mut f = File::new(bytes, 2, 309)?;
-    f.take_kind(4, 2)?;
+    f.take_kind(4, 2, 6)?;
     let place = f.value(1, 1, table.places, 5)?;
     let conditions = f.conditions(5, [table.registers, 0, table.constants.len()])?;
     f.end()?;
@@ -254,7 +262,7 @@ pub fn question(table: &Table, bytes: &[u8]) -> Result<Vec<Row>, Refusal> {
     while rows.is_empty() || !f.ended() {
         f.take(3)?;
         f.value(0, 1, 14, 5)?;
-        let kind = f.fields[0];
+        let kind = f.fields[0] as u32;
         let (k, c, n) = (table.registers, table.constants.len(), rows.len());
         let (a, b) = match kind {
             1 => (f.value(1, 1, table.places, 5)?, f.value(2, 0, 0, 5)?),

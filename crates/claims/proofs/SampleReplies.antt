@@ -34,7 +34,7 @@ use Rattle.reach.proofs.StepGraph.{graph-fits}
 use Rattle.witness.specs.Printed.{reachedCount}
 use Rattle.witness.proofs.SampleRun.{sample-count}
 use Rattle.writing.specs.Said.{TableFile, TargetFile}
-use Rattle.writing.proofs.Sample.{sample-says, loose-says, delivered-says, delivered-by-one-says, loose-by-one-says, always-says, inevitable-says, alwaysRows, inevitableRows}
+use Rattle.writing.proofs.Sample.{sample-says, loose-says, delivered-says, delivered-by-one-says, loose-by-one-says, always-says, inevitable-says, alwaysRows, inevitableRows, largestSample, largest-says, largest-delivered-says, largest-always-says}
 use Rattle.claims.specs.Files.{targetFiles}
 use Rattle.claims.specs.ReachReply.{foundReply, reachReply}
 use Rattle.claims.specs.AskReply.{askedReply}
@@ -63,6 +63,22 @@ always-fails = refl
 inevitable-holds : failing sample (question inevitableRows) ≡ none
 unfolding flatMap zipWith
 inevitable-holds = refl
+
+-- with the two largest identifiers
+abbrev largestWalk : Walk
+largestWalk = start 1 ▸ 13 ▸ 25
+
+largest-walk : nearestTo largestSample delivered ≡ some largestWalk
+unfolding flatMap
+largest-walk = refl
+
+largest-found : found largestSample ≡ start 1 ∷ start 1 ▸ 13 ∷ start 1 ▸ 16 ∷ largestWalk ∷ start 1 ▸ 16 ▸ 27 ∷ start 1 ▸ 16 ▸ 29 ∷ []
+unfolding found flatMap
+largest-found = refl
+
+largest-fails : failing largestSample (question alwaysRows) ≡ some 1
+unfolding flatMap zipWith
+largest-fails = refl
 
 -- the question of the text
 neverByOne : Question
@@ -94,4 +110,6 @@ samples-hold c m =
     (λ m. ⊎-elim (λ e. subst⁻¹ Shows e (ask-reply inRows _ _ sample _ alwaysRows sample-says (always-says, refl) ∙ ap (askedReply sample) always-fails))
     (λ m. ⊎-elim (λ e. subst⁻¹ Shows e (ask-reply inRows _ _ sample _ inevitableRows sample-says (inevitable-says, refl) ∙ ap (askedReply sample) inevitable-holds))
     (λ m. ⊎-elim (λ e. subst⁻¹ Shows e (ask-reply inText _ _ sample (formulaOf neverByOne) (rowsFrom 0 neverByOne) sample-says (neverByOne, never-by-one-says, refl, refl) ∙ ap (askedReply sample) never-by-one-holds))
-    (λ m. absurd (List·Memᴰ·not-nil m)) (List·Memᴰ·cases-cons m)) (List·Memᴰ·cases-cons m)) (List·Memᴰ·cases-cons m)) (List·Memᴰ·cases-cons m)) (List·Memᴰ·cases-cons m)) (List·Memᴰ·cases-cons m)
+    (λ m. ⊎-elim (λ e. subst⁻¹ Shows e (shown _ _ largestSample delivered largestWalk 2 6 _ _ largest-says largest-delivered-says largest-walk (ap (Reached 2) (found-count largestSample tt _ largest-found)) refl refl))
+    (λ m. ⊎-elim (λ e. subst⁻¹ Shows e (ask-reply inRows _ _ largestSample _ alwaysRows largest-says (largest-always-says, refl) ∙ ap (askedReply largestSample) largest-fails))
+    (λ m. absurd (List·Memᴰ·not-nil m)) (List·Memᴰ·cases-cons m)) (List·Memᴰ·cases-cons m)) (List·Memᴰ·cases-cons m)) (List·Memᴰ·cases-cons m)) (List·Memᴰ·cases-cons m)) (List·Memᴰ·cases-cons m)) (List·Memᴰ·cases-cons m)) (List·Memᴰ·cases-cons m)

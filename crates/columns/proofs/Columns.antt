@@ -1,17 +1,46 @@
--- Bytes stored one after another, and the columns of numbers: their lengths, and each from what is left of the number.
+-- Bytes stored one after another, widths, and the columns of numbers: their lengths, and each from what is left of the number.
 -- Assumes nothing.
 use Prim.Native.Nat.{ℕ, zero, suc, _+_, _*_, _-_, _/_, _%_, _^_, _≤_, _<_}
-use mathlib.Core.Bool.{Bool, true, false, cond, _&&_, not}
+use mathlib.Core.Bool.{Bool, true, false, cond, _&&_, not, and-false}
 use mathlib.Core.List.{List, [], _∷_, _++_}
 use mathlib.Core.Path.{_≡_, refl, sym, _∙_, ap, ap₂}
-use borrow.Author.Tests.{lt-ltb, ltb-true, ltb-false, eqb-true, eqb-false, eq-eqb, ne-eqb}
-use native.Mathlib.Nat.{pow-suc, one-le-pow, le-div-iff-mul-le, div-eq-of-lt, div-div-eq-div-mul, div-one, mul-comm}
+use borrow.Author.Tests.{lt-ltb, ltb-true, ltb-false, eqb-true, eqb-false, eq-eqb, ne-eqb, le-leb}
+use native.Mathlib.Nat.{pow-suc, one-le-pow, le-div-iff-mul-le, div-eq-of-lt, div-div-eq-div-mul, div-one, lt-of-lt-of-le, pow-le-pow-right, mul-zero, mul-suc, add-comm}
 use native.Mathlib.Numerals.{add-one}
 use native.Mathlib.Omega.{arith}
 use lib.Dec.{ltb, eqb}
 use lib.ListN.{length, getD, set, drop, length-append, drop-of-length-le}
 use lib.Seq.{sets, set-comm, drop-cons}
-use Rattle.columns.specs.Columns.{columnOf, column, columns}
+use Rattle.columns.specs.declared.Sheet.{Sheet}
+use Rattle.columns.specs.declared.Sheet.the-variants.{Table, Run, Answer, Plain}
+use Rattle.columns.specs.Widths.{identifier, width}
+use Rattle.columns.specs.Columns.{columnOf, column, columns, lineColumns}
+
+-- Widths
+
+pub width-is : (s : Sheet) (k i : ℕ) → (6 ≤ width s k i) × (width s k i ≤ 12)
+unfolding width
+width-is s k i = by (identifier s k i)
+  where
+    by : (b : Bool) → (6 ≤ cond b 12 6) × (cond b 12 6 ≤ 12)
+    by true = (omega arith, omega arith)
+    by false = (omega arith, omega arith)
+
+-- what a line begins with has six columns
+pub width-first : (s : Sheet) (k : ℕ) → width s k 0 ≡ 6
+unfolding width
+width-first Table k = ap (λ b. cond b 12 6) (and-false (eqb k 2))
+width-first Run k = refl
+width-first Answer k = ap (λ b. cond b 12 6) (and-false (eqb k 0))
+width-first Plain k = refl
+
+-- the numbers of a line on this sheet fit in their fields
+abbrev pub InColumns : Sheet → List ℕ → Type 0
+InColumns s vs = (i : ℕ) → getD vs i 0 < 10 ^ width s (getD vs 0 0) i
+
+-- numbers of six digits do on every sheet
+pub six-digits : (s : Sheet) (vs : List ℕ) → ((i : ℕ) → getD vs i 0 < 1000000) → InColumns s vs
+six-digits s vs h i = lt-of-lt-of-le (h i) (pow-le-pow-right {n = 10} (omega arith) (width-is s (getD vs 0 0) i .0))
 
 -- Stores
 
@@ -31,9 +60,55 @@ pub column-length : (w v : ℕ) → length (column w v) ≡ w
 column-length zero v = refl
 column-length (suc w) v = ap suc (column-length w v)
 
-pub columns-length : (w : ℕ) (vs : List ℕ) → length (columns w vs) ≡ length vs * w
-columns-length w [] = omega arith
-columns-length w (v ∷ vs) = length-append (column w v) (columns w vs) ∙ ap₂ (λ m n. m + n) (column-length w v) (columns-length w vs) ∙ omega arith
+-- each field has at most twelve columns
+pub columns-most : (w : ℕ → ℕ) → ((i : ℕ) → (6 ≤ w i) × (w i ≤ 12)) → (i : ℕ) (vs : List ℕ) → length (columns w i vs) ≤ 12 * length vs
+columns-most w is i [] = omega arith
+columns-most w is i (v ∷ vs) = omega (arith, length-append (column (w i) v) (columns w (suc i) vs), column-length (w i) v, columns-most w is (suc i) vs, is i)
+
+-- from field i on in n columns each
+columns-length : (n : ℕ) (w : ℕ → ℕ) (i : ℕ) → ((j : ℕ) → w (i + j) ≡ n) → (vs : List ℕ) → length (columns w i vs) ≡ n * length vs
+columns-length n w i h [] = sym (mul-zero n)
+columns-length n w i h (v ∷ vs) =
+    let z : i + 0 ≡ i = omega arith in
+    let rest : length (columns w (suc i) vs) ≡ n * length vs = columns-length n w (suc i) (λ j. let e : suc i + j ≡ i + suc j = omega arith in ap w e ∙ h (suc j)) vs in
+    length-append (column (w i) v) (columns w (suc i) vs) ∙ ap₂ (λ x y. x + y) (column-length (w i) v ∙ ap w (sym z) ∙ h 0) rest ∙ add-comm n (n * length vs) ∙ sym (mul-suc n (length vs))
+
+-- a line with no identifier
+pub plain-length : (s : Sheet) (vs : List ℕ) → ((i : ℕ) → identifier s (getD vs 0 0) i ≡ false) → length (lineColumns s vs) ≡ 6 * length vs
+unfolding width
+plain-length s vs h = columns-length 6 (width s (getD vs 0 0)) 0 (λ j. ap (λ b. cond b 12 6) (h (0 + j))) vs
+
+-- of a table's lines one field is wide at most
+pub table-most : (vs : List ℕ) → length (lineColumns Table vs) ≤ 6 * length vs + 6
+unfolding width
+table-most [] = omega arith
+table-most (a ∷ []) = omega (arith, length-append (column (width Table a 0) a) [], column-length (width Table a 0) a, width-first Table a)
+table-most (a ∷ b ∷ vs) =
+    let w : ℕ → ℕ = width Table a in
+    let narrow : (j : ℕ) → w (2 + j) ≡ 6 = λ j. ap (λ k. cond (eqb a 2 && k) 12 6) (ne-eqb (2 + j) 1 (λ e. omega arith)) ∙ ap (λ k. cond k 12 6) (and-false (eqb a 2)) in
+    omega (
+      arith,
+      length-append (column (w 0) a) (columns w 1 (b ∷ vs)),
+      length-append (column (w 1) b) (columns w 2 vs),
+      column-length (w 0) a,
+      column-length (w 1) b,
+      width-first Table a,
+      width-is Table a 1,
+      columns-length 6 w 2 narrow vs,
+    )
+
+-- document 02's widths: a table's line 2, a moment of a run, an answer that is no
+pub constant-length : (v : ℕ) → length (lineColumns Table (2 ∷ v ∷ [])) ≡ 6 + 12
+unfolding width
+constant-length v = refl
+
+pub moment-length : (k i l : ℕ) (vs : List ℕ) → length (lineColumns Run (k ∷ i ∷ l ∷ vs)) ≡ 3 * 6 + 12 * length vs
+unfolding width
+moment-length k i l vs = omega (arith, columns-length 12 (width Run k) 3 (λ j. ap (λ b. cond b 12 6) (le-leb 3 (3 + j) (omega arith))) vs)
+
+pub answer-length : (k : ℕ) (vs : List ℕ) → length (lineColumns Answer (0 ∷ k ∷ vs)) ≡ 2 * 6 + 12 * length vs
+unfolding width
+answer-length k vs = omega (arith, columns-length 12 (width Answer 0) 2 (λ j. ap (λ b. cond b 12 6) (le-leb 2 (2 + j) (omega arith))) vs)
 
 -- A column from what is left of the number
 
@@ -92,22 +167,27 @@ columns-done l₀ l at w v i z e =
 
 -- Numbers, one after another: o is the line with all of them, and those from number i on are still to come
 
-module _ (vs : List ℕ) (w : ℕ) where
-  pub numbers-length : length (columns w vs) ≡ w * length vs
-  numbers-length = columns-length w vs ∙ mul-comm (length vs) w
-
+module _ (vs : List ℕ) (w : ℕ → ℕ) where
   module _ (i : ℕ) (h : i < length vs) where
     next : drop i vs ≡ getD vs i 0 ∷ drop (i + 1) vs
     next = drop-cons vs i 0 h ∙ ap (λ n. getD vs i 0 ∷ drop n vs) (sym (add-one i))
 
-    pub number-room : length (columns w (drop i vs)) ≡ w + length (columns w (drop (i + 1) vs))
-    number-room = ap (λ ys. length (columns w ys)) next ∙ length-append (column w (getD vs i 0)) (columns w (drop (i + 1) vs)) ∙ ap (λ n. n + length (columns w (drop (i + 1) vs))) (column-length w (getD vs i 0))
+    abbrev rest : List ℕ
+    rest = columns w (i + 1) (drop (i + 1) vs)
 
-    pub number-more : (l o : List ℕ) (end : ℕ) → sets l end (columns w (drop i vs)) ≡ o → sets (sets l end (column w (getD vs i 0))) (end + w) (columns w (drop (i + 1) vs)) ≡ o
+    these : columns w i (drop i vs) ≡ column (w i) (getD vs i 0) ++ rest
+    these = ap (columns w i) next ∙ ap (λ n. column (w i) (getD vs i 0) ++ columns w n (drop (i + 1) vs)) (sym (add-one i))
+
+    pub number-room : length (columns w i (drop i vs)) ≡ w i + length (columns w (i + 1) (drop (i + 1) vs))
+    number-room = ap length these ∙ length-append (column (w i) (getD vs i 0)) rest ∙ ap (λ n. n + length rest) (column-length (w i) (getD vs i 0))
+
+    pub number-more : (l o : List ℕ) (end : ℕ) → sets l end (columns w i (drop i vs)) ≡ o → sets (sets l end (column (w i) (getD vs i 0))) (end + w i) (columns w (i + 1) (drop (i + 1) vs)) ≡ o
     number-more l o end e =
         let x : ℕ = getD vs i 0 in
-        let rest : List ℕ = columns w (drop (i + 1) vs) in
-        ap (λ k. sets (sets l end (column w x)) (end + k) rest) (sym (column-length w x)) ∙ sym (sets-append (column w x) rest l end) ∙ ap (λ ys. sets l end (columns w ys)) (sym next) ∙ e
+        ap (λ k. sets (sets l end (column (w i) x)) (end + k) rest) (sym (column-length (w i) x)) ∙ sym (sets-append (column (w i) x) rest l end) ∙ ap (sets l end) (sym these) ∙ e
 
-  pub numbers-done : (l o : List ℕ) (end i : ℕ) → length vs ≤ i → sets l end (columns w (drop i vs)) ≡ o → l ≡ o
-  numbers-done l o end i h e = ap (λ ys. sets l end (columns w ys)) (sym (drop-of-length-le vs h)) ∙ e
+  pub numbers-done : (l o : List ℕ) (end i : ℕ) → length vs ≤ i → sets l end (columns w i (drop i vs)) ≡ o → l ≡ o
+  numbers-done l o end i h e = ap (λ ys. sets l end (columns w i ys)) (sym (drop-of-length-le vs h)) ∙ e
+
+  pub none-left-over : (i : ℕ) → length vs ≤ i → length (columns w i (drop i vs)) ≡ 0
+  none-left-over i h = ap (λ ys. length (columns w i ys)) (drop-of-length-le vs h)

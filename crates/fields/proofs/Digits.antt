@@ -1,96 +1,87 @@
--- The numbers of a line have at most six digits, and each has six bytes. Assumes nothing.
-use Prim.Native.Nat.{ℕ, zero, suc, _+_, _*_, _<_, _≤_}
+-- The numbers of a line fit in their columns, and each has six at least. Assumes nothing.
+use Prim.Native.Nat.{ℕ, zero, suc, _+_, _*_, _^_, _≤_, _<_}
 use mathlib.Core.Bool.{Bool, true, false, cond}
-use mathlib.Core.List.{List, [], _∷_}
+use mathlib.Core.List.{List, [], _∷_, _++_}
 use mathlib.Core.Option.{Option, some, none}
-use mathlib.Core.Path.{_≡_, refl, subst}
+use mathlib.Core.Path.{_≡_, refl, sym, _∙_, ap, subst}
+use native.Mathlib.Nat.{pow-succ', mul-assoc}
 use native.Mathlib.Omega.{arith}
-use lib.Dec.{eqb}
-use lib.ListN.{length, getD, replicate}
-use Rattle.fields.specs.Format.{glyphOf, onDigit, digitsFrom, onField, field, both, fields}
-use Rattle.lists.specs.Arrays.{padded}
+use borrow.Author.Tests.{leb-true}
+use lib.Dec.{leb, eqb}
+use lib.ListN.{length, getD, take, drop, length-append, length-drop}
+use Rattle.columns.specs.declared.Sheet.{Sheet}
+use Rattle.columns.proofs.Columns.{width-is}
+use Rattle.fields.specs.Format.{glyphOf, onDigit, digitsFrom, onField, field, fieldIn, nextWidth, onNumber, fieldsAfter, fields}
 use Rattle.fields.specs.declared.Glyph.{Glyph}
 use Rattle.fields.specs.declared.Glyph.the-variants.{Blank, Digit, Other}
-use Rattle.fields.proofs.Simulation.{room, digit-low}
-
--- every number is below a million
-abbrev pub Low : List ℕ → Type 0
-Low t = (i : ℕ) → getD t i 0 < 1000000
-
-pub low-zeros : (n : ℕ) → Low (replicate n 0)
-low-zeros zero i = omega arith
-low-zeros (suc n) zero = omega arith
-low-zeros (suc n) (suc i) = low-zeros n i
-
-pub low-cons : (v : ℕ) (fs : List ℕ) → v < 1000000 → Low fs → Low (v ∷ fs)
-low-cons v fs h l zero = h
-low-cons v fs h l (suc i) = l i
+use Rattle.fields.proofs.Simulation.{digit-low}
 
 pub no-number : {A : Type 0} {B : Type 0} {w : B} → none ≡ some w → A
 no-number e = let z : _≡_ {A = ℕ} 0 1 = cc in absurd (omega arith)
 
-digits-low : (bs : List ℕ) (v w : ℕ) → v < room (length bs) → digitsFrom v bs ≡ some w → w < 1000000
-digits-low [] v w h e = let z : v ≡ w = cc in omega arith
-digits-low (b ∷ bs) v w h e = go (glyphOf b) refl e (digits-low bs)
+tens : (m n : ℕ) → m * 10 * 10 ^ n ≡ m * 10 ^ suc n
+tens m n = mul-assoc m 10 (10 ^ n) ∙ ap (λ x. m * x) (sym (pow-succ' 10 n))
+
+-- further digits after a number below m
+digits-low : (bs : List ℕ) (v w m : ℕ) → v < m → digitsFrom v bs ≡ some w → w < m * 10 ^ length bs
+digits-low [] v w m h e = let z : v ≡ w = cc in omega arith
+digits-low (b ∷ bs) v w m h e = go (glyphOf b) refl e (λ u w k. digits-low bs u w (m * 10) k)
   where
     go : (g : Glyph) → glyphOf b ≡ g → onDigit g v (λ u. digitsFrom u bs) ≡ some w
-        → ((u w : ℕ) → u < room (length bs) → digitsFrom u bs ≡ some w → w < 1000000) → w < 1000000
+        → ((u w : ℕ) → u < m * 10 → digitsFrom u bs ≡ some w → w < m * 10 * 10 ^ length bs) → w < m * 10 ^ suc (length bs)
     go Blank k e rec = no-number e
     go Other k e rec = no-number e
     go (Digit d) k e rec = by (eqb v 0) e
       where
-        by : (x : Bool) → cond x none (digitsFrom (v * 10 + d) bs) ≡ some w → w < 1000000
+        by : (x : Bool) → cond x none (digitsFrom (v * 10 + d) bs) ≡ some w → w < m * 10 ^ suc (length bs)
         by true e = no-number e
-        by false e = rec (v * 10 + d) w (omega (arith, digit-low b d k)) e
+        by false e = subst (λ n. w < n) (tens m (length bs)) (rec (v * 10 + d) w (omega (arith, digit-low b d k)) e)
 
-first-low : (b w : ℕ) (bs : List ℕ) → 10 ≤ room (length bs) → (field bs ≡ some w → w < 1000000) → (g : Glyph) → glyphOf b ≡ g
-    → onField g (field bs) (λ d. digitsFrom d bs) ≡ some w → w < 1000000
-first-low b w bs h rec Blank k e = rec e
-first-low b w bs h rec Other k e = no-number e
-first-low b w bs h rec (Digit d) k e = digits-low bs d w (omega (arith, digit-low b d k)) e
-
-field-low : (b w : ℕ) (bs : List ℕ) → 10 ≤ room (length bs) → field (b ∷ bs) ≡ some w → w < 1000000
-field-low b w [] h e = first-low b w [] h no-number (glyphOf b) refl e
-field-low b w (c ∷ bs) h e = first-low b w (c ∷ bs) h (field-low c w bs (omega arith)) (glyphOf b) refl e
-
--- the numbers fs of a line with the bytes l
-abbrev Numbers : List ℕ → List ℕ → Type 0
-Numbers l fs = (length l ≡ 6 * length fs) × Low fs
-
-numbers : (n : ℕ) (l fs : List ℕ) → fields n l ≡ some fs → Numbers l fs
-numbers n [] fs e = let z : [] ≡ fs = cc in subst (Numbers []) z (refl, λ i. omega arith)
-numbers zero (a ∷ l) fs e = no-number e
-numbers (suc n) (a ∷ []) fs e = no-number e
-numbers (suc n) (a ∷ b ∷ []) fs e = no-number e
-numbers (suc n) (a ∷ b ∷ c ∷ []) fs e = no-number e
-numbers (suc n) (a ∷ b ∷ c ∷ d ∷ []) fs e = no-number e
-numbers (suc n) (a ∷ b ∷ c ∷ d ∷ g ∷ []) fs e = no-number e
-numbers (suc n) (a ∷ b ∷ c ∷ d ∷ g ∷ h ∷ l) fs e = by (field (a ∷ b ∷ c ∷ d ∷ g ∷ h ∷ [])) (fields n l) refl e (numbers n l)
+-- the number in the columns of a field
+pub field-low : (bs : List ℕ) (w : ℕ) → field bs ≡ some w → w < 10 ^ length bs
+field-low [] w e = no-number e
+field-low (b ∷ bs) w e = go (glyphOf b) refl e (field-low bs w)
   where
-    by : (o : Option ℕ) (os : Option (List ℕ)) → field (a ∷ b ∷ c ∷ d ∷ g ∷ h ∷ []) ≡ o → both o os ≡ some fs
-        → ((gs : List ℕ) → os ≡ some gs → Numbers l gs) → Numbers (a ∷ b ∷ c ∷ d ∷ g ∷ h ∷ l) fs
-    by none os x e rec = no-number e
-    by (some v) none x e rec = no-number e
-    by (some v) (some gs) x e rec =
-        let z : (v ∷ gs) ≡ fs = cc in
-        let y = rec gs refl in
-        let low : v < 1000000 = field-low a v (b ∷ c ∷ d ∷ g ∷ h ∷ []) (omega arith) x in
-        subst (Numbers (a ∷ b ∷ c ∷ d ∷ g ∷ h ∷ l)) z (omega arith, low-cons v gs low (y .1))
+    more : 10 * 10 ^ length bs ≡ 10 ^ suc (length bs)
+    more = sym (pow-succ' 10 (length bs))
 
--- a line has six bytes for each field
-pub fields-length : (n : ℕ) (l fs : List ℕ) → fields n l ≡ some fs → length l ≡ 6 * length fs
-fields-length n l fs e = numbers n l fs e .0
+    go : (g : Glyph) → glyphOf b ≡ g → onField g (field bs) (λ d. digitsFrom d bs) ≡ some w → (field bs ≡ some w → w < 10 ^ length bs) → w < 10 ^ suc (length bs)
+    go Blank k e rec = omega (arith, rec e, more)
+    go Other k e rec = no-number e
+    go (Digit d) k e rec = subst (λ n. w < n) more (digits-low bs d w 10 (omega (arith, digit-low b d k)) e)
 
--- its numbers are low
-pub fields-low : (n : ℕ) (l fs : List ℕ) → fields n l ≡ some fs → Low fs
-fields-low n l fs e = numbers n l fs e .1
+-- Lines
 
-pub padded-low : (n : ℕ) (fs : List ℕ) → Low fs → Low (padded n fs)
-unfolding padded
-padded-low zero fs h = λ i. omega arith
-padded-low (suc n) [] h = low-cons 0 (padded n []) (omega arith) (padded-low n [] h)
-padded-low (suc n) (x ∷ xs) h = low-cons x (padded n xs) (h 0) (padded-low n xs (λ i. h (suc i)))
+pub field-in : (w : ℕ) (l : List ℕ) (v : ℕ) → fieldIn w l ≡ some v → (w ≤ length l) × (field (take w l) ≡ some v)
+field-in w l v e = by (leb w (length l)) refl e
+  where
+    by : (k : Bool) → leb w (length l) ≡ k → cond k (field (take w l)) none ≡ some v → (w ≤ length l) × (field (take w l) ≡ some v)
+    by true z e = (leb-true w (length l) z, e)
+    by false z e = no-number e
 
--- and so are those of its row
-pub row-low : (l fs : List ℕ) → fields 6 l ≡ some fs → Low (padded 6 fs)
-row-low l fs e = padded-low 6 fs (fields-low 6 l fs e)
+pub number-read : (o : Option ℕ) (more : ℕ → Option (List ℕ)) (vs : List ℕ) → onNumber o more ≡ some vs → (v : ℕ) × (o ≡ some v) × (more v ≡ some vs)
+number-read none more vs e = no-number e
+number-read (some v) more vs e = (v, refl, e)
+
+module _ (s : Sheet) where
+  -- the next field of a line that is read, and the rest
+  pub next-read : (n : ℕ) (fs : List ℕ) (b : ℕ) (l vs : List ℕ) → fieldsAfter s fs (suc n) (b ∷ l) ≡ some vs → let w : ℕ = nextWidth s fs in
+      (v : ℕ) × (w ≤ length (b ∷ l)) × (field (take w (b ∷ l)) ≡ some v) × (fieldsAfter s (fs ++ (v ∷ [])) n (drop w (b ∷ l)) ≡ some vs)
+  next-read n fs b l vs e =
+      let w : ℕ = nextWidth s fs in
+      let (v, o, rest) = number-read (fieldIn w (b ∷ l)) (λ v. fieldsAfter s (fs ++ (v ∷ [])) n (drop w (b ∷ l))) vs e in
+      let (h, f) = field-in w (b ∷ l) v o in
+      (v, h, f, rest)
+
+  after-least : (n : ℕ) (fs l vs : List ℕ) → fieldsAfter s fs n l ≡ some vs → 6 * length vs ≤ 6 * length fs + length l
+  after-least zero fs [] vs e = let z : fs ≡ vs = cc in omega (arith, ap length z)
+  after-least zero fs (b ∷ l) vs e = no-number e
+  after-least (suc n) fs [] vs e = let z : fs ≡ vs = cc in omega (arith, ap length z)
+  after-least (suc n) fs (b ∷ l) vs e =
+      let w : ℕ = nextWidth s fs in
+      let (v, h, f, rest) = next-read n fs b l vs e in
+      omega (arith, h, after-least n (fs ++ (v ∷ [])) (drop w (b ∷ l)) vs rest, length-append fs (v ∷ []), length-drop w (b ∷ l), width-is s (getD fs 0 0) (length fs))
+
+  -- a line has six bytes at least for each field
+  pub fields-least : (n : ℕ) (l vs : List ℕ) → fields s n l ≡ some vs → 6 * length vs ≤ length l
+  fields-least n l vs e = omega (arith, after-least n [] l vs e)

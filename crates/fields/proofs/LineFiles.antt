@@ -16,6 +16,7 @@ use mathlib.Core.Option.{Option, some, none}
 use Rattle.refusals.specs.Judged.{Judged, refusal}
 use Rattle.refusals.specs.Judged.Judged.{accepted, refused}
 use Rattle.refusals.specs.declared.Refusal.{Refusal}
+use Rattle.columns.specs.declared.Sheet.{Sheet}
 use Rattle.fields.specs.Format.{fields, onto, pieces}
 use Rattle.lists.specs.Arrays.{padded}
 use Rattle.fields.specs.Scan.{blank, scan, scans, closed, lineOf}
@@ -24,13 +25,13 @@ use Rattle.fields.specs.Machine.{between, ends, onByte, onEnd, verdict, 
 use Rattle.fields.specs.declared.Line.{Line}
 use Rattle.fields.specs.declared.Lines.{Lines}
 use Rattle.fields.proofs.Simulation.{line-run}
-use Rattle.fields.proofs.Digits.{Low, row-low, fields-length}
+use Rattle.fields.proofs.Digits.{fields-least}
 
 -- The machine
 
-scans-snoc : (l : List ℕ) (m : Line) (b : ℕ) → scan (scans m l) b ≡ scans m (l ++ (b ∷ []))
-scans-snoc [] m b = refl
-scans-snoc (a ∷ l) m b = scans-snoc l (scan m a) b
+scans-snoc : (sheet : Sheet) (l : List ℕ) (m : Line) (b : ℕ) → scan sheet (scans sheet m l) b ≡ scans sheet m (l ++ (b ∷ []))
+scans-snoc sheet [] m b = refl
+scans-snoc sheet (a ∷ l) m b = scans-snoc sheet l (scan sheet m a) b
 
 abbrev nonempty : List ℕ → Bool
 nonempty [] = false
@@ -41,22 +42,22 @@ nonempty-snoc [] b = refl
 nonempty-snoc (a ∷ l) b = refl
 
 -- after n lines and the bytes l of a line
-abbrev withinLine : ℕ → List ℕ → Lines
-withinLine n l = record { line = scans blank l; partial = nonempty l; lines = n; number = 0 }
+abbrev withinLine : Sheet → ℕ → List ℕ → Lines
+withinLine sheet n l = record { line = scans sheet blank l; partial = nonempty l; lines = n; number = 0 }
 
-snoc : (n : ℕ) (l : List ℕ) (b : ℕ) → onByte (withinLine n l) b ≡ withinLine n (l ++ (b ∷ []))
+snoc : (sheet : Sheet) (n : ℕ) (l : List ℕ) (b : ℕ) → onByte sheet (withinLine sheet n l) b ≡ withinLine sheet n (l ++ (b ∷ []))
 unfolding onByte
-snoc n l b =
-    let s : scan (scans blank l) b ≡ scans blank (l ++ (b ∷ [])) = scans-snoc l blank b in
+snoc sheet n l b =
+    let s : scan sheet (scans sheet blank l) b ≡ scans sheet blank (l ++ (b ∷ [])) = scans-snoc sheet l blank b in
     let e : true ≡ nonempty (l ++ (b ∷ [])) = nonempty-snoc l b in
     λ i. record { line = s i; partial = e i; lines = n; number = 0 }
 
 -- a byte that ends no line leaves the lines before it
-pub byte-lines : (l : Lines) (b : ℕ) → onByte l b .lines ≡ l .lines
+pub byte-lines : (sheet : Sheet) (l : Lines) (b : ℕ) → onByte sheet l b .lines ≡ l .lines
 unfolding onByte
-byte-lines l b = by (eqb (l .number) 0)
+byte-lines sheet l b = by (eqb (l .number) 0)
   where
-    by : (k : Bool) → cond {A = Lines} k (record { line = scan (l .line) b; partial = true; lines = l .lines; number = 0 }) l .lines ≡ l .lines
+    by : (k : Bool) → cond {A = Lines} k (record { line = scan sheet (l .line) b; partial = true; lines = l .lines; number = 0 }) l .lines ≡ l .lines
     by true = refl
     by false = refl
 
@@ -87,7 +88,7 @@ Numbered P (refused x) = P (x .number)
 
 module _ {S : Type 0} (r : Rules S) where
   abbrev within : ℕ → S → List ℕ → Reading S
-  within n s l = record { state = s; lines = withinLine n l }
+  within n s l = record { state = s; lines = withinLine (r .sheet) n l }
 
   -- one turn of the loop over the bytes
   pub run-on : (bytes : List ℕ) (y z o : Reading S) (i : ℕ) → i < length bytes → z ≡ fed r y (getD bytes i 0) → run r y (drop i bytes) ≡ o → run r z (drop (i + 1) bytes) ≡ o
@@ -114,11 +115,11 @@ module _ {S : Type 0} (r : Rules S) where
       line true x = step (l .fields)
       line false x = h
 
-      byte : (k : Bool) → P (cond {A = Lines} k (record { line = scan (y .lines .line) b; partial = true; lines = y .lines .lines; number = 0 }) (y .lines) .lines) (y .state)
+      byte : (k : Bool) → P (cond {A = Lines} k (record { line = scan (r .sheet) (y .lines .line) b; partial = true; lines = y .lines .lines; number = 0 }) (y .lines) .lines) (y .state)
       byte true = h
       byte false = h
 
-      by : (k : Bool) → let z : Reading S = cond k (ended r y) (record { state = y .state; lines = onByte (y .lines) b }) in P (z .lines .lines) (z .state)
+      by : (k : Bool) → let z : Reading S = cond k (ended r y) (record { state = y .state; lines = onByte (r .sheet) (y .lines) b }) in P (z .lines .lines) (z .state)
       by true = line (eqb (judgeRead (r .judge (y .state)) l) 0) (judgeRead (r .judge (y .state)) l)
       by false = byte (eqb (y .lines .number) 0)
 
@@ -159,15 +160,15 @@ module _ {S : Type 0} (r : Rules S) where
       where
         by : (k : Bool) → ((m : ℕ) (t : S) → ending r file (run r (within m t []) bs) ≡ further m t bs)
             → ending r file (run r (within n s (l ++ (b ∷ []))) bs) ≡ readLines r file n s (l ++ (b ∷ []) ++ pieces bs .0) (pieces bs .1)
-            → ending r file (run r (cond k (ended r (within n s l)) (record { state = s; lines = onByte (withinLine n l) b })) bs)
+            → ending r file (run r (cond k (ended r (within n s l)) (record { state = s; lines = onByte (r .sheet) (withinLine (r .sheet) n l) b })) bs)
             ≡ readLines r file n s (l ++ onto k b (pieces bs) .0) (onto k b (pieces bs) .1)
         by true rec more =
-            let m : Line = closed (scans blank l) in
-            after-line (eqb (judgeRead (r .judge s) m) 0) (judgeRead (r .judge s) m) n s (r .accept s (m .fields)) (scans blank l) bs refl (rec (n + 1) (r .accept s (m .fields)))
-            ∙ ap (next n s bs) (line-run l ∙ ap (λ (x : List ℕ). lineOf (fields 6 x)) (sym (append-nil l)))
-            ∙ next-is n s bs (fields 6 (l ++ []))
+            let m : Line = closed (scans (r .sheet) blank l) in
+            after-line (eqb (judgeRead (r .judge s) m) 0) (judgeRead (r .judge s) m) n s (r .accept s (m .fields)) (scans (r .sheet) blank l) bs refl (rec (n + 1) (r .accept s (m .fields)))
+            ∙ ap (next n s bs) (line-run (r .sheet) l ∙ ap (λ (x : List ℕ). lineOf (fields (r .sheet) 6 x)) (sym (append-nil l)))
+            ∙ next-is n s bs (fields (r .sheet) 6 (l ++ []))
         by false rec more =
-            ap (λ (x : Lines). ending r file (run r (record { state = s; lines = x }) bs)) (snoc n l b) ∙ more
+            ap (λ (x : Lines). ending r file (run r (record { state = s; lines = x }) bs)) (snoc (r .sheet) n l b) ∙ more
             ∙ ap (λ (x : List ℕ). readLines r file n s x (pieces bs .1)) (append-assoc l (b ∷ []) (pieces bs .0))
 
     -- a file of too many bytes, and any other, by the machine's state at its end
@@ -193,7 +194,7 @@ module _ {S : Type 0} (r : Rules S) where
 
     -- what every line that is accepted keeps, with the number of bytes so far, holds at the end of a file that is accepted
     module _ (limit : ℕ) (Q : ℕ → S → Type 0)
-        (step : (m : ℕ) (s : S) (fs : List ℕ) → Low (padded 6 fs) → r .judge s (length fs) (padded 6 fs) ≡ 0 → m + (6 * length fs + 1) ≤ limit → Q m s → Q (m + (6 * length fs + 1)) (r .accept s (padded 6 fs)))
+        (step : (m k : ℕ) (s : S) (fs : List ℕ) → r .judge s (length fs) (padded 6 fs) ≡ 0 → 6 * length fs ≤ k → m + (k + 1) ≤ limit → Q m s → Q (m + (k + 1)) (r .accept s (padded 6 fs)))
         (u : S) where
       abbrev Kept : Type 0
       Kept = (m : ℕ) × Q m u × (r .complete u ≡ true)
@@ -205,9 +206,9 @@ module _ {S : Type 0} (r : Rules S) where
       lines-keep : (ls : List (List ℕ)) (n m : ℕ) (s : S) (l : List ℕ) → Q m s → m + bytesOf l ls ≤ limit → readLines r file n s l ls ≡ accepted u → Kept
       lines-keep [] n m s [] q h e = end-keeps n m s q (r .complete s) refl e
       lines-keep [] n m s (b ∷ l) q h e = not-accepted _ u e
-      lines-keep (x ∷ ls) n m s l q h e = by (fields 6 l) refl e (λ k t. lines-keep ls (n + 1) k t x)
+      lines-keep (x ∷ ls) n m s l q h e = by (fields (r .sheet) 6 l) refl e (λ k t. lines-keep ls (n + 1) k t x)
         where
-          by : (o : Option (List ℕ)) → fields 6 l ≡ o → judged file (n + 1) (judgeLine (r .judge s) o) (readLines r file (n + 1) (r .accept s (rowOf o)) x ls) ≡ accepted u
+          by : (o : Option (List ℕ)) → fields (r .sheet) 6 l ≡ o → judged file (n + 1) (judgeLine (r .judge s) o) (readLines r file (n + 1) (r .accept s (rowOf o)) x ls) ≡ accepted u
               → ((k : ℕ) (t : S) → Q k t → k + bytesOf x ls ≤ limit → readLines r file (n + 1) t x ls ≡ accepted u → Kept) → Kept
           by none z e rec = not-accepted _ u e
           by (some fs) z e rec = go (eqb (r .judge s (length fs) (padded 6 fs)) 0) refl e
@@ -216,8 +217,7 @@ module _ {S : Type 0} (r : Rules S) where
                   → cond k (readLines r file (n + 1) (r .accept s (padded 6 fs)) x ls) (refused (refusal (r .judge s (length fs) (padded 6 fs)) file (n + 1))) ≡ accepted u → Kept
               go false j e = not-accepted _ u e
               go true j e =
-                  let w : length l ≡ 6 * length fs = fields-length 6 l fs z in
-                  rec (m + (6 * length fs + 1)) (r .accept s (padded 6 fs)) (step m s fs (row-low l fs z) (eqb-true _ _ j) (omega arith) q) (omega arith) e
+                  rec (m + (length l + 1)) (r .accept s (padded 6 fs)) (step m (length l) s fs (eqb-true _ _ j) (fields-least (r .sheet) 6 l fs z) (omega arith) q) (omega arith) e
 
       pub file-keeps : (s : S) (bytes : List ℕ) → Q 0 s → readFile r file limit s bytes ≡ accepted u → Kept
       unfolding readFile
@@ -241,8 +241,8 @@ module _ {S : Type 0} (r : Rules S) where
       lines-numbers [] n s [] = either (r .complete s) (accepted s) _ tt two
       lines-numbers [] n s (b ∷ l) = two
       lines-numbers (m ∷ ls) n s l =
-          either (eqb (judgeLine (r .judge s) (fields 6 l)) 0) (readLines r file (n + 1) (r .accept s (rowOf (fields 6 l))) m ls) _
-          (lines-numbers ls (n + 1) (r .accept s (rowOf (fields 6 l))) m) (line-number s (fields 6 l))
+          either (eqb (judgeLine (r .judge s) (fields (r .sheet) 6 l)) 0) (readLines r file (n + 1) (r .accept s (rowOf (fields (r .sheet) 6 l))) m ls) _
+          (lines-numbers ls (n + 1) (r .accept s (rowOf (fields (r .sheet) 6 l))) m) (line-number s (fields (r .sheet) 6 l))
 
       pub file-numbers : (limit : ℕ) (s : S) (bytes : List ℕ) → Numbered P (readFile r file limit s bytes)
       unfolding readFile

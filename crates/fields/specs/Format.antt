@@ -1,9 +1,12 @@
--- The text of a file: lines that end with byte 10, of decimal numbers in fields of six columns. This is what a reader believes.
+-- The text of a file: lines that end with byte 10, of decimal numbers in fields of columns. This is what a reader believes.
 use Prim.Native.Nat.{ℕ, zero, suc, _+_, _*_, _-_}
-use mathlib.Core.List.{List, [], _∷_}
+use mathlib.Core.List.{List, [], _∷_, _++_}
 use mathlib.Core.Bool.{Bool, true, false, cond}
 use mathlib.Core.Option.{Option, some, none}
 use lib.Dec.{leb, eqb}
+use lib.ListN.{length, getD, take, drop}
+use Rattle.columns.specs.declared.Sheet.{Sheet}
+use Rattle.columns.specs.Widths.{width}
 use Rattle.fields.specs.declared.Glyph.{Glyph}
 use Rattle.fields.specs.declared.Glyph.the-variants.{Blank, Digit, Other}
 
@@ -32,21 +35,33 @@ abbrev pub field : List ℕ → Option ℕ
 field [] = none
 field (b ∷ bs) = onField (glyphOf b) (field bs) (λ d. digitsFrom d bs)
 
-abbrev pub both : Option ℕ → Option (List ℕ) → Option (List ℕ)
-both none fs = none
-both (some v) none = none
-both (some v) (some fs) = some (v ∷ fs)
+-- the number in the first w columns of a line, if it has so many
+abbrev pub fieldIn : ℕ → List ℕ → Option ℕ
+fieldIn w l = cond (leb w (length l)) (field (take w l)) none
 
--- the numbers of a line of at most n fields of six columns
-abbrev pub fields : ℕ → List ℕ → Option (List ℕ)
-fields n [] = some []
-fields zero (a ∷ l) = none
-fields (suc n) (a ∷ []) = none
-fields (suc n) (a ∷ b ∷ []) = none
-fields (suc n) (a ∷ b ∷ c ∷ []) = none
-fields (suc n) (a ∷ b ∷ c ∷ d ∷ []) = none
-fields (suc n) (a ∷ b ∷ c ∷ d ∷ e ∷ []) = none
-fields (suc n) (a ∷ b ∷ c ∷ d ∷ e ∷ f ∷ l) = both (field (a ∷ b ∷ c ∷ d ∷ e ∷ f ∷ [])) (fields n l)
+-- how wide the field after the numbers fs of a line on this sheet is
+abbrev pub nextWidth : Sheet → List ℕ → ℕ
+nextWidth s fs = width s (getD fs 0 0) (length fs)
+
+-- what follows a number, if there is one
+abbrev pub onNumber : Option ℕ → (ℕ → Option (List ℕ)) → Option (List ℕ)
+onNumber none more = none
+onNumber (some v) more = more v
+
+-- what follows on a line, if anything does
+abbrev pub onRest : List ℕ → Option (List ℕ) → Option (List ℕ) → Option (List ℕ)
+onRest [] end more = end
+onRest (b ∷ l) end more = more
+
+-- the numbers of a line, of which the numbers fs are read, with at most n fields more
+abbrev pub fieldsAfter : Sheet → List ℕ → ℕ → List ℕ → Option (List ℕ)
+fieldsAfter s fs zero l = onRest l (some fs) none
+fieldsAfter s fs (suc n) l =
+    onRest l (some fs) (onNumber (fieldIn (nextWidth s fs) l) (λ v. fieldsAfter s (fs ++ (v ∷ [])) n (drop (nextWidth s fs) l)))
+
+-- the numbers of a line of at most n fields
+abbrev pub fields : Sheet → ℕ → List ℕ → Option (List ℕ)
+fields s n l = fieldsAfter s [] n l
 
 -- a byte before these pieces of a file: a byte 10 begins a new one
 abbrev pub onto : Bool → ℕ → List ℕ × List (List ℕ) → List ℕ × List (List ℕ)

@@ -8,12 +8,14 @@ use lib.Dec.{ltb, eqb}
 use lib.ListN.{length}
 use Rattle.refusals.specs.Judged.{Judged, refusal}
 use Rattle.refusals.specs.Judged.Judged.{accepted, refused}
+use Rattle.columns.specs.declared.Sheet.{Sheet}
 use Rattle.fields.specs.Format.{fields, pieces}
 use Rattle.lists.specs.Arrays.{padded}
 
--- the rules of a file from whose lines an S is read: the refusal, or 0, of a line of so many fields whose numbers are this row; what is read after a
--- line that is accepted; whether the file may end
+-- the rules of a file from whose lines an S is read: how wide their fields are; the refusal, or 0, of a line of so many fields whose numbers are this
+-- row; what is read after a line that is accepted; whether the file may end
 pub record Rules (S : Type 0) : Type 0 where
+  pub sheet : Sheet
   pub judge : S → ℕ → List ℕ → ℕ
   pub accept : S → List ℕ → S
   pub complete : S → Bool
@@ -41,7 +43,7 @@ atEnd r file n s (b ∷ l) = refused (refusal 2 file (n + 1))
 abbrev pub readLines : {S : Type 0} → Rules S → (file n : ℕ) → S → List ℕ → List (List ℕ) → Judged S
 readLines r file n s l [] = atEnd r file n s l
 readLines r file n s l (m ∷ ls) =
-    judged file (n + 1) (judgeLine (r .judge s) (fields 6 l)) (readLines r file (n + 1) (r .accept s (rowOf (fields 6 l))) m ls)
+    judged file (n + 1) (judgeLine (r .judge s) (fields (r .sheet) 6 l)) (readLines r file (n + 1) (r .accept s (rowOf (fields (r .sheet) 6 l))) m ls)
 
 -- a file of at most limit bytes, its lines from the top, the first at s
 unfoldable pub readFile : {S : Type 0} → Rules S → (file limit : ℕ) → S → List ℕ → Judged S

@@ -7,6 +7,7 @@ use mathlib.Core.List.{List, [], _∷_}
 use lib.Dec.{eqb}
 use Rattle.refusals.specs.Judged.{Judged}
 use Rattle.refusals.specs.Judged.Judged.{accepted}
+use Rattle.columns.specs.declared.Sheet.{Sheet}
 use Rattle.fields.specs.Scan.{blank, scan, closed}
 use Rattle.fields.specs.LineFiles.{Rules, judged}
 use Rattle.fields.specs.declared.Line.{Line}
@@ -21,8 +22,8 @@ abbrev pub ends : Lines → ℕ → Bool
 ends l b = eqb (l .number) 0 && eqb b 10
 
 -- after a byte that ends no line
-unfoldable pub onByte : Lines → ℕ → Lines
-onByte l b = cond (eqb (l .number) 0) (record { line = scan (l .line) b; partial = true; lines = l .lines; number = 0 }) l
+unfoldable pub onByte : Sheet → Lines → ℕ → Lines
+onByte s l b = cond (eqb (l .number) 0) (record { line = scan s (l .line) b; partial = true; lines = l .lines; number = 0 }) l
 
 -- after byte 10, where the line that it ends has the refusal x, or 0
 unfoldable pub onEnd : Lines → ℕ → Lines
@@ -50,7 +51,7 @@ ended r y = endedBy r y (closed (y .lines .line)) (judgeRead (r .judge (y .state
 
 -- after the next byte
 unfoldable pub fed : {S : Type 0} → Rules S → Reading S → ℕ → Reading S
-fed r y b = cond (ends (y .lines) b) (ended r y) (record { state = y .state; lines = onByte (y .lines) b })
+fed r y b = cond (ends (y .lines) b) (ended r y) (record { state = y .state; lines = onByte (r .sheet) (y .lines) b })
 
 -- after these bytes
 abbrev pub run : {S : Type 0} → Rules S → Reading S → List ℕ → Reading S

@@ -14,6 +14,8 @@ use lib.ListN.{length, getD, take, drop, length-append, length-drop}
 use lib.Seq.{take-all, take-append-le, drop-append-add}
 use Rattle.lists.specs.Arrays.{padded}
 use Rattle.lists.proofs.Arrays.{padded-length, padded-take}
+use Rattle.columns.specs.declared.Sheet.{Sheet}
+use Rattle.columns.specs.Columns.{fileBytes}
 use Rattle.graphs.proofs.Lists.{and-elim}
 use Rattle.automata.specs.Automaton.{Automaton, arity}
 use Rattle.automata.specs.Runs.{State, Move, transitionOf, isStep, after, permitted, initial, isRun, follows}
@@ -22,10 +24,10 @@ use Rattle.forms.proofs.Forms.{Limits}
 use Rattle.concretization.specs.RunLines.{momentNumbers, momentLine, linesFrom, slotted, runLines}
 use Rattle.claims.specs.declared.Reaching.{Reaching}
 use Rattle.claims.specs.AnswerNumbers.{reachNumbers}
-use Rattle.printout.specs.Document.{momentLines}
+use Rattle.printout.specs.Document.{momentLines, reachBytes}
 use Rattle.printout.specs.PrintedLines.{shown, moments, momentCount}
 use Rattle.printout.specs.Text.{Put}
-use Rattle.printout.proofs.PutLines.{put-none, put-more}
+use Rattle.printout.proofs.PutLines.{put-none, put-more, file-append}
 
 -- The contents of a no
 
@@ -45,22 +47,24 @@ five-taken x y v n r m l h e =
 
 -- The moments of a run
 
-pub moments-none : (slots : List ℕ) (at : ℕ) (t : List ℕ) → Put (moments 0 slots) at at t t
+pub moments-none : (s : Sheet) (slots : List ℕ) (at : ℕ) (t : List ℕ) → Put (fileBytes s (moments 0 slots)) at at t t
 unfolding moments
-moments-none slots at t = put-none at t
+moments-none s slots at t = put-none at t
 
 -- a moment more, from the part of the slots that begins with it
-pub moments-more : (n : ℕ) (slots : List ℕ) (at mid end : ℕ) (a b c : List ℕ) → Put (moments n slots) at mid a b
-    → Put (shown (take (length slots - 12 * n) (drop (12 * n) slots)) ∷ []) mid end b c → Put (moments (n + 1) slots) at end a c
+pub moments-more : (s : Sheet) (n : ℕ) (slots : List ℕ) (at mid end : ℕ) (a b c : List ℕ) → Put (fileBytes s (moments n slots)) at mid a b
+    → Put (fileBytes s (shown (take (length slots - 12 * n) (drop (12 * n) slots)) ∷ [])) mid end b c → Put (fileBytes s (moments (n + 1) slots)) at end a c
 unfolding moments
-moments-more n slots at mid end a b c p q =
+moments-more s n slots at mid end a b c p q =
+    let here : List (List ℕ) = shown (drop (12 * n) slots) ∷ [] in
     let rest : take (length slots - 12 * n) (drop (12 * n) slots) ≡ drop (12 * n) slots = take-all (length slots - 12 * n) (drop (12 * n) slots) (omega (arith, length-drop (12 * n) slots)) in
-    subst⁻¹ (λ k. Put (moments k slots) at end a c) (add-one n) (put-more (moments n slots) (shown (drop (12 * n) slots) ∷ []) at mid end a b c p (subst (λ s. Put (shown s ∷ []) mid end b c) rest q))
+    let both = put-more (fileBytes s (moments n slots)) (fileBytes s here) at mid end a b c p (subst (λ x. Put (fileBytes s (shown x ∷ [])) mid end b c) rest q) in
+    subst⁻¹ (λ k. Put (fileBytes s (moments k slots)) at end a c) (add-one n) (subst⁻¹ (λ x. Put x at end a c) (file-append s (moments n slots) here) both)
 
--- the answer's line, then the moments
-pub answer-put : (r : Reaching) (slots vs : List ℕ) (m at end : ℕ) (a b c : List ℕ) → vs ≡ reachNumbers r → m ≡ momentCount r → Put (vs ∷ []) 0 at a b → Put (moments m slots) at end b c
-    → Put (reachNumbers r ∷ moments (momentCount r) slots) 0 end a c
-answer-put r slots vs m at end a b c e d p q = subst (λ ls. Put ls 0 end a c) (ap₂ (λ u n. u ∷ moments n slots) e d) (put-more (vs ∷ []) (moments m slots) 0 at end a b c p q)
+-- the answer's line and the moments are those of the reply
+pub answer-put : (r : Reaching) (slots vs : List ℕ) (m end : ℕ) (a c : List ℕ) → vs ≡ reachNumbers r → m ≡ momentCount r → Put (reachBytes (vs ∷ moments m slots)) 0 end a c
+    → Put (reachBytes (reachNumbers r ∷ moments (momentCount r) slots)) 0 end a c
+answer-put r slots vs m end a c e d p = subst (λ ls. Put (reachBytes ls) 0 end a c) (ap₂ (λ u n. u ∷ moments n slots) e d) p
 
 -- what is shown of a moment's slots are its numbers
 shown-slotted : (xs rest : List ℕ) → length xs ≤ 11 → shown (slotted xs ++ rest) ≡ xs

@@ -1,7 +1,7 @@
 -- What is printed is what document 01 says (`reach-printout`, `ask-printout`), and what the code sets in lines is what is printed (`found-lines`, `asked-line`).
 -- Assumes nothing.
 use Prim.Native.Nat.{ℕ, suc, _*_, _≤_, _<_}
-use mathlib.Core.List.{List, [], _∷_, List·Memᴰ·head, List·Memᴰ·tail}
+use mathlib.Core.List.{List, [], _∷_}
 use mathlib.Core.Logic._⊎_.{inl, inr}
 use mathlib.Core.Logic.{_⊎_, ⊎-elim}
 use mathlib.Core.Option.{Option, none, some}
@@ -16,6 +16,9 @@ use Rattle.refusals.specs.Judged.Judged.{accepted, refused}
 use Rattle.refusals.proofs.Composed.{then-accepted}
 use Rattle.lists.specs.Arrays.{padded}
 use Rattle.lists.proofs.Arrays.{padded-take}
+use Rattle.columns.specs.declared.Sheet.the-variants.{Answer}
+use Rattle.columns.specs.Widths.{width}
+use Rattle.columns.proofs.Columns.{InColumns}
 use Rattle.sets.specs.Members.{member}
 use Rattle.graphs.specs.Search.{Walk, steps}
 use Rattle.graphs.proofs.Lists.{T-true}
@@ -59,12 +62,12 @@ use Rattle.claims.proofs.Claims.{question-right}
 use Rattle.claims.proofs.Meaning.{question-read, question-files, question-turned}
 use Rattle.checker.proofs.Filed.{ask-roomy}
 use Rattle.checker.proofs.Targeted.{reach-roomy}
-use Rattle.printout.specs.Document.{ReachedCount, TargetLines, QuestionLines, ReachPrintout, AskPrintout}
+use Rattle.printout.specs.Document.{ReachedCount, TargetLines, QuestionLines, ReadBack, ReachReadBack, ReachPrintout, AskPrintout}
 use Rattle.printout.specs.Document.TargetLines.{never, reached}
 use Rattle.printout.specs.Document.QuestionLines.{yes, no}
 use Rattle.printout.specs.PrintedLines.{moments, momentCount, classOf, walkLines, reachPrinted, askPrinted}
 use Rattle.printout.proofs.MomentSlots.{moments-run}
-use Rattle.printout.proofs.ReadBack.{Each, Low, read-back, found-low, asked-low, target-refused-low, question-refused-low}
+use Rattle.printout.proofs.ReadBack.{one-back, found-back, asked-fits, target-refused-back, question-refused-back}
 
 -- Targets
 
@@ -143,9 +146,8 @@ module _ (s g : List ℕ) where
             (reachedCount a, reached-count a (file .fits) (file .small), subst⁻¹ (TargetLines a x (reachedCount a)) same (target-lines a (file .fits) (file .small) x (aim .fits) (nearestTo a x) refl));
         unsaid = λ none. ⊎-elim (λ (t, u, r). absurd (none (automatonOf t) (targetOf u) (r .said) (r .aimed))) (λ (r, e). (r, e, turned-back r e)) target-cases;
         readable =
-            read-back (reachPrinted (targetFiles s g))
-            (⊎-elim (λ (t, u, r). subst⁻¹ (Each Low) (along t u r) (found-low (automatonOf t) (r .said .fits) (r .said .small) (r .said .digits) (targetOf u) (r .aimed .fits) (nearestTo (automatonOf t) (targetOf u)) refl))
-            (λ (r, e). subst⁻¹ (Each Low) (turned-back r e) (target-refused-low s g r e)) target-cases);
+            ⊎-elim (λ (t, u, r). subst⁻¹ ReachReadBack (along t u r) (found-back (automatonOf t) (r .said .fits) (r .said .small) (r .said .issued) (targetOf u) (r .aimed .fits) (nearestTo (automatonOf t) (targetOf u)) refl))
+            (λ (r, e). subst⁻¹ ReachReadBack (turned-back r e) (target-refused-back s g r e)) target-cases;
       }
 
   -- what the call returned, over buffers with room
@@ -197,9 +199,10 @@ question-line a lim f before (some k) (_, (v, p, e)) =
     let (same, back) = contents-named a lim f k v p e in
     (subst (λ u. QuestionLines a f ((0 ∷ k ∷ u) ∷ [])) same (no k v p), ap (λ u. 0 ∷ k ∷ u) back)
 
-class-low : (a : Automaton) (o : Option ℕ) → Each Low (askedNumbers a o ∷ []) → classOf (askedReply a o) < 1000000
+class-low : (a : Automaton) (o : Option ℕ) → InColumns Answer (askedNumbers a o) → classOf (askedReply a o) < 1000000
+unfolding width
 class-low a none l = omega arith
-class-low a (some k) l = l _ (List·Memᴰ·head refl) k (List·Memᴰ·tail (List·Memᴰ·head refl))
+class-low a (some k) l = l 1
 
 module _ (w : Notation) (s q : List ℕ) where
   asking : (t : List ℕ) (r : Rows) → openTable s ≡ accepted t → questionTo w (automatonOf t) q ≡ accepted r → QuestionRead w s q t r
@@ -242,8 +245,8 @@ module _ (w : Notation) (s q : List ℕ) where
     line : (b : AskBuffers) → T (rowsRoom b) → QuestionLines a f (askedNumbers a (failing a f) ∷ []) × (askNumbers (askedReply a (failing a f)) (askedContents a (failing a f) (b .contents)) ≡ askedNumbers a (failing a f))
     line b room = question-line a (read .said .small) f (b .contents) (failing a f) (question-right s t (read .opened) (rowsIn (withQuestion t r)) (read .form .fits) b room .answer)
 
-    low : Each Low (askedNumbers a (failing a f) ∷ [])
-    low = asked-low a (read .said .fits) (read .said .small) (read .said .digits) f
+    fit : InColumns Answer (askedNumbers a (failing a f))
+    fit = asked-fits a (read .said .fits) (read .said .small) (read .said .issued) f
 
   unasked : (r : Refusal) → questionFiles w s q ≡ refused r → askTold (questionFiles w s q) ≡ 2 ∷ refusalNumbers r
   unfolding askTold
@@ -257,8 +260,8 @@ module _ (w : Notation) (s q : List ℕ) where
             subst (λ v. QuestionLines x g (v ∷ [])) (sym (told t r read)) (subst (λ y. QuestionLines y g (askedNumbers (a t r read) (failing (a t r read) (f t r read)) ∷ [])) e (subst (λ y. QuestionLines (a t r read) y (askedNumbers (a t r read) (failing (a t r read) (f t r read)) ∷ [])) d (line t r read wide wide-room .0)));
         unsaid = λ none. ⊎-elim (λ (t, r, read). absurd (none (automatonOf t) (f t r read) (rowsIn (withQuestion t r)) (read .said) (read .asked))) (λ (r, e). (r, e, (λ a file. question-turned w s q a file r e), ap (λ v. v ∷ []) (unasked r e))) question-cases;
         readable =
-            read-back (askPrinted (questionFiles w s q))
-            (⊎-elim (λ (t, r, read). subst⁻¹ (λ v. Each Low (v ∷ [])) (told t r read) (low t r read)) (λ (r, e). subst⁻¹ (λ v. Each Low (v ∷ [])) (unasked r e) (question-refused-low w s q r e)) question-cases);
+            ⊎-elim (λ (t, r, read). subst⁻¹ (λ v. ReadBack Answer (v ∷ [])) (told t r read) (one-back Answer _ (fit t r read)))
+            (λ (r, e). subst⁻¹ (λ v. ReadBack Answer (v ∷ [])) (unasked r e) (question-refused-back w s q r e)) question-cases;
       }
 
   -- what the call returned, over a buffer with room
@@ -270,7 +273,7 @@ module _ (w : Notation) (s q : List ℕ) where
     unfolding askReply
     class-printed =
         subst⁻¹ (λ x. classOf x < 1000000) (e ∙ ap askReply enough)
-        (⊎-elim (λ (t, r, read). subst⁻¹ (λ j. classOf (askReply j) < 1000000) (read .files) (class-low (a t r read) (failing (a t r read) (f t r read)) (low t r read)))
+        (⊎-elim (λ (t, r, read). subst⁻¹ (λ j. classOf (askReply j) < 1000000) (read .files) (class-low (a t r read) (failing (a t r read) (f t r read)) (fit t r read)))
         (λ (r, e). subst⁻¹ (λ j. classOf (askReply j) < 1000000) e (omega arith)) question-cases)
 
     pub asked-line : askNumbers reply contents ∷ [] ≡ askPrinted (questionFiles w s q)

@@ -55,8 +55,8 @@ module _ {S : Type 0} (r : Rules S) (file m : ℕ) (h : file ≤ 2) where
   lines-placed [] n s [] k = either (r .complete s) (accepted s) 2 (n + 1) (omega arith) tt
   lines-placed [] n s (b ∷ l) k = (h, omega arith)
   lines-placed (x ∷ ls) n s l k =
-      let j : ℕ = judgeLine (r .judge s) (fields 6 l) in
-      let next : S = r .accept s (rowOf (fields 6 l)) in
+      let j : ℕ = judgeLine (r .judge s) (fields (r .sheet) 6 l) in
+      let next : S = r .accept s (rowOf (fields (r .sheet) 6 l)) in
       either (eqb j 0) (readLines r file (n + 1) next x ls) j (n + 1) (omega arith) (lines-placed ls (n + 1) next x (omega arith))
 
   file-placed : (limit : ℕ) (s : S) (bytes : List ℕ) → limit + 1 ≤ m → Placed m (readFile r file limit s bytes)

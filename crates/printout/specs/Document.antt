@@ -2,7 +2,7 @@
 -- Assumes nothing.
 use Prim.Native.Nat.{ℕ, suc, _<_}
 use mathlib.Core.Bool.{Bool}
-use mathlib.Core.List.{List, [], _∷_, List·Memᴰ}
+use mathlib.Core.List.{List, [], _∷_, _++_, List·Memᴰ}
 use mathlib.Core.Logic.{_↔_}
 use mathlib.Core.Option.{some}
 use mathlib.Core.Path.{_≡_}
@@ -11,8 +11,10 @@ use lib.ListN.{length}
 use Rattle.refusals.specs.declared.Refusal.{Refusal}
 use Rattle.refusals.specs.Judged.{refusalNumbers}
 use Rattle.refusals.specs.Judged.Judged.{refused}
-use Rattle.columns.specs.Columns.{column}
-use Rattle.fields.specs.Format.{field}
+use Rattle.columns.specs.declared.Sheet.{Sheet}
+use Rattle.columns.specs.declared.Sheet.the-variants.{Run, Answer, Plain}
+use Rattle.columns.specs.Columns.{lineColumns, fileBytes}
+use Rattle.fields.specs.Format.{fields}
 use Rattle.sets.specs.Members.{population}
 use Rattle.graphs.specs.Formulas.{Formula}
 use Rattle.automata.specs.Automaton.{Automaton}
@@ -57,20 +59,30 @@ pub data QuestionLines (a : Automaton) (f : Formula Atom) : List (List ℕ) → 
 
 -- The printouts
 
--- every number of the lines is read back from its six columns
-abbrev pub ReadBack : List (List ℕ) → Type 0
-ReadBack ls = (vs : List ℕ) → List·Memᴰ vs ls → (v : ℕ) → List·Memᴰ v vs → field (column 6 v) ≡ some v
+-- the lines of a target's printout as bytes: the answer's, then those of the run's moments
+abbrev pub reachBytes : List (List ℕ) → List ℕ
+reachBytes [] = []
+reachBytes (vs ∷ ls) = fileBytes Plain (vs ∷ []) ++ fileBytes Run ls
+
+-- every line on this sheet is read back as its numbers
+abbrev pub ReadBack : Sheet → List (List ℕ) → Type 0
+ReadBack s ls = (vs : List ℕ) → List·Memᴰ vs ls → fields s (length vs) (lineColumns s vs) ≡ some vs
+
+-- so is every line of a target's printout
+abbrev pub ReachReadBack : List (List ℕ) → Type 0
+ReachReadBack [] = Unit {0}
+ReachReadBack (vs ∷ ls) = ReadBack Plain (vs ∷ []) × ReadBack Run ls
 
 -- the lines for the bytes s of a table and g of a target
 pub record ReachPrintout (s g : List ℕ) (ls : List (List ℕ)) : Type 0 where
   pub said : (a : Automaton) (x : Target) → TableFile s a → TargetFile a g x → (n : ℕ) × ReachedCount a n × TargetLines a x n ls
   -- where they say no table and target: 2, number, file and line of the refusal
   pub unsaid : ((a : Automaton) (x : Target) → TableFile s a → TargetFile a g x → ⊥) → (r : Refusal) × (targetFiles s g ≡ refused r) × (ls ≡ (2 ∷ refusalNumbers r) ∷ [])
-  pub readable : ReadBack ls
+  pub readable : ReachReadBack ls
 
 -- the same for the bytes q of a question in the notation w; where they say a table, the refusal is one of the question
 pub record AskPrintout (w : Notation) (s q : List ℕ) (ls : List (List ℕ)) : Type 0 where
   pub said : (a : Automaton) (f : Formula Atom) (rs : List Row) → TableFile s a → QuestionSaid w a q f rs → QuestionLines a f ls
   pub unsaid : ((a : Automaton) (f : Formula Atom) (rs : List Row) → TableFile s a → QuestionSaid w a q f rs → ⊥)
       → (r : Refusal) × (questionFiles w s q ≡ refused r) × ((a : Automaton) → TableFile s a → QuestionRefused w a q r) × (ls ≡ (2 ∷ refusalNumbers r) ∷ [])
-  pub readable : ReadBack ls
+  pub readable : ReadBack Answer ls

@@ -3,6 +3,7 @@ ghost use mathlib.Core.Path.{_≡_};
 ghost use Prim.Native.Nat.{_≤_, _<_, min};
 ghost use lib.ListN.{length, take};
 ghost use Rattle.io.specs.Counts.{Counts};
+ghost use Rattle.columns.specs.declared.Sheet.the-variants.{Answer};
 ghost use Rattle.columns.specs.Columns.{fileBytes};
 ghost use Rattle.refusals.specs.Judged.{Judged};
 ghost use Rattle.claims.specs.Files.{WithQuestion, questionFiles, AskBuffers, askBuffers, askFiles};
@@ -15,6 +16,7 @@ use crate::files::read_file;
 use crate::text::put_line;
 use checker::Asking;
 use claims::Notation;
+use columns::Sheet;
 use libc::STDOUT_FILENO;
 
 pub struct Numbers {
@@ -87,7 +89,7 @@ fn put_asking_over(
     rows: &mut [u32],
     text: &mut [u8],
 ) -> usize
-    requires { ⌜ (10784 ≤ length (now rows)) × (43 ≤ length (now text)) ⌝ }
+    requires { ⌜ (10784 ≤ length (now rows)) × (73 ≤ length (now text)) ⌝ }
     ensures { λ r. ⌜ AskText notation (now (table .entry)) (now (question .entry)) r (now (text .entry)) (now (text .exit)) ⌝ }
 {
     let mut contents = [0u32; 5];
@@ -95,12 +97,12 @@ fn put_asking_over(
     let line = first_line(reply, contents);
     let n = line.count;
     let values = line.values;
-    put_line(text, 0, &values[..n])
+    put_line(text, 0, Sheet::Answer, &values[..n])
 }
 
 // The same, over memory of its own.
 pub fn put_asking(notation: Notation, table: &[u8], question: &[u8], text: &mut [u8]) -> usize
-    requires { ⌜ 43 ≤ length (now text) ⌝ }
+    requires { ⌜ 73 ≤ length (now text) ⌝ }
     ensures { λ r. ⌜ AskText notation (now (table .entry)) (now (question .entry)) r (now (text .entry)) (now (text .exit)) ⌝ }
 {
     let mut rows = [0u32; 10784];
@@ -109,7 +111,7 @@ pub fn put_asking(notation: Notation, table: &[u8], question: &[u8], text: &mut 
 
 // Hands the printout for these bytes of a table and a question to C's write.
 fn hand_over(notation: Notation, table: &[u8], question: &[u8], text: &[u8]) -> bool
-    requires { ⌜ now text ≡ fileBytes (askPrinted (questionFiles notation (now table) (now question))) ⌝ }
+    requires { ⌜ now text ≡ fileBytes Answer (askPrinted (questionFiles notation (now table) (now question))) ⌝ }
 {
     io::write_all(STDOUT_FILENO, text)
 }
@@ -124,7 +126,7 @@ pub fn print_asking_over(
     question: &mut [u8],
     text: &mut [u8],
 ) -> Printed
-    requires { ⌜ (40001 ≤ length (now table)) × (609 ≤ length (now question)) × (43 ≤ length (now text)) ⌝ }
+    requires { ⌜ (40001 ≤ length (now table)) × (609 ≤ length (now question)) × (73 ≤ length (now text)) ⌝ }
     ensures { λ r.
         ⌜ AskText notation (take (r .table) (now (table .exit))) (take (r .other) (now (question .exit))) (r .text) (now (text .entry)) (now (text .exit)) ⌝ }
 {
@@ -144,7 +146,7 @@ pub fn print_asking_over(
 fn print_in(notation: Notation, table_name: &[u8], question_name: &[u8]) -> bool {
     let mut table = [0u8; 40001];
     let mut question = [0u8; 609];
-    let mut text = [b' '; 43];
+    let mut text = [b' '; 73];
     let printed = print_asking_over(
         notation,
         table_name,

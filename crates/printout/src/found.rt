@@ -4,9 +4,9 @@ ghost use mathlib.Core.Path.{_≡_};
 ghost use Prim.Native.Nat.{_≤_};
 ghost use lib.ListN.{length, take};
 ghost use Rattle.io.specs.Counts.{Counts};
-ghost use Rattle.columns.specs.Columns.{fileBytes};
 ghost use Rattle.claims.specs.Files.{targetFiles};
 ghost use Rattle.claims.specs.AnswerNumbers.{reachNumbers};
+ghost use Rattle.printout.specs.Document.{reachBytes};
 ghost use Rattle.printout.specs.PrintedLines.{moments as momentsIn, momentCount, reachPrinted};
 ghost use Rattle.printout.specs.Text.{Put, ReachText};
 use crate::files::Printed;
@@ -14,6 +14,7 @@ use crate::files::read_file;
 use crate::text::put_line;
 use crate::text::put_moments;
 use checker::Reaching;
+use columns::Sheet;
 use libc::STDOUT_FILENO;
 
 pub struct Numbers {
@@ -56,21 +57,21 @@ fn moments(reply: Reaching) -> usize
 
 // Writes the lines of an answer and its run; returns where they end.
 fn put_answer(text: &mut [u8], reply: Reaching, slots: &[u32]) -> usize
-    requires { ⌜ (momentCount reply ≤ 10785) × (722620 ≤ length (now text)) × (129420 ≤ length (now slots)) ⌝ }
+    requires { ⌜ (momentCount reply ≤ 10785) × (1240300 ≤ length (now text)) × (129420 ≤ length (now slots)) ⌝ }
     ensures { λ r.
-        ⌜ Put (reachNumbers reply ∷ momentsIn (momentCount reply) (now (slots .entry))) 0 r (now (text .entry)) (now (text .exit))
+        ⌜ Put (reachBytes (reachNumbers reply ∷ momentsIn (momentCount reply) (now (slots .entry)))) 0 r (now (text .entry)) (now (text .exit))
         × Counts r (now (text .exit)) ⌝ }
 {
     let first = first_line(reply);
     let n = first.count;
     let values = first.values;
-    let at = put_line(text, 0, &values[..n]);
+    let at = put_line(text, 0, Sheet::Plain, &values[..n]);
     put_moments(text, at, slots, moments(reply))
 }
 
 // Writes the printout for the bytes of a table and a target; returns how long it is.
 pub fn reach_text(table: &[u8], target: &[u8], text: &mut [u8]) -> usize
-    requires { ⌜ 722620 ≤ length (now text) ⌝ }
+    requires { ⌜ 1240300 ≤ length (now text) ⌝ }
     ensures { λ r. ⌜ ReachText (now (table .entry)) (now (target .entry)) r (now (text .entry)) (now (text .exit)) ⌝ }
 {
     let mut words = [0u32; 337];
@@ -92,7 +93,7 @@ pub fn reach_text(table: &[u8], target: &[u8], text: &mut [u8]) -> usize
 
 // Hands the printout for these bytes of a table and a target to C's write.
 fn hand_over(table: &[u8], target: &[u8], text: &[u8]) -> bool
-    requires { ⌜ now text ≡ fileBytes (reachPrinted (targetFiles (now table) (now target))) ⌝ }
+    requires { ⌜ now text ≡ reachBytes (reachPrinted (targetFiles (now table) (now target))) ⌝ }
 {
     io::write_all(STDOUT_FILENO, text)
 }
@@ -105,7 +106,7 @@ pub fn print_reaching_over(
     target: &mut [u8],
     text: &mut [u8],
 ) -> Printed
-    requires { ⌜ (40001 ≤ length (now table)) × (310 ≤ length (now target)) × (722620 ≤ length (now text)) ⌝ }
+    requires { ⌜ (40001 ≤ length (now table)) × (310 ≤ length (now target)) × (1240300 ≤ length (now text)) ⌝ }
     ensures { λ r.
         ⌜ ReachText (take (r .table) (now (table .exit))) (take (r .other) (now (target .exit))) (r .text) (now (text .entry)) (now (text .exit)) ⌝ }
 {
@@ -125,7 +126,7 @@ pub fn print_reaching_over(
 pub fn print_reaching(table_name: &[u8], target_name: &[u8]) -> bool {
     let mut table = [0u8; 40001];
     let mut target = [0u8; 310];
-    let mut text = [b' '; 722620];
+    let mut text = [b' '; 1240300];
     let printed = print_reaching_over(table_name, target_name, &mut table, &mut target, &mut text);
     printed.all
 }

@@ -6,18 +6,20 @@ use mathlib.Core.List.{List, [], _∷_, _++_}
 use mathlib.Core.Path.{_≡_, refl, sym, _∙_, subst}
 use borrow.Author.Tests.{eqb-true, eqb-false, ltb-true}
 use native.Mathlib.Omega.{arith}
-use lib.Dec.{T, leb, eqb, le→leb}
+use lib.Dec.{T, leb, eqb, eqb→eq, le→leb}
 use lib.Ieee.Fits.{and-i, and-l, and-r}
-use lib.ListN.{length, length-replicate}
+use lib.ListN.{length, getD, length-replicate}
 use Rattle.refusals.specs.Judged.Judged.{accepted}
 use Rattle.lists.specs.Arrays.{padded}
 use Rattle.graphs.proofs.Lists.{T-true}
-use Rattle.fields.proofs.Digits.{Low}
+use Rattle.fields.specs.Machine.{judgeRead}
+use Rattle.fields.specs.declared.Line.{Line}
 use Rattle.fields.proofs.LineFiles.{file-keeps}
 use Rattle.automata.specs.Automaton.{Automaton}
 use Rattle.automata.specs.Questions.{Row, Use, kindOf}
 use Rattle.automata.specs.Questions.Use.{locationNumber, registerNumber, constantNumber, rowNumber, unused}
 use Rattle.automata.specs.WellFormed.{inside, constantCount, fitsUse, fitsRow, fitsRows, fitsQuestion}
+use Rattle.automata.proofs.Equivariance.{inside→}
 use Rattle.questions.specs.declared.Counts.{Counts}
 use Rattle.questions.specs.QuestionRules.{firstOf, judgeField, judgeRow, rowIn, judgeFields}
 use Rattle.forms.specs.QuestionForm.{questionLength, rowsOf}
@@ -42,6 +44,32 @@ both-passed true x y e = by (eqb x 0) refl e
 pub three-fields : (k : Bool) (count x : ℕ) → eqb count 3 ≡ k → cond k x 2 ≡ 0 → (count ≡ 3) × (x ≡ 0)
 three-fields true count x h e = (eqb-true count 3 h, e)
 three-fields false count x h e = absurd (omega arith)
+
+-- the numbers of a row that is accepted are at most m, as the counts are
+module _ (c : Counts) (n m : ℕ) (r : c .registers ≤ m) (k : c .constants ≤ m) (l : c .locations ≤ m) (h : n ≤ m) where
+  field-small : (u : Use) (x : ℕ) → judgeField c n u x ≡ 0 → x ≤ m
+  unfolding judgeField
+  field-small locationNumber x e = omega (arith, inside→ (c .locations) x (passed (inside (c .locations) x) 4 e))
+  field-small registerNumber x e = omega (arith, inside→ (c .registers) x (passed (inside (c .registers) x) 4 e))
+  field-small constantNumber x e = omega (arith, inside→ (c .constants) x (passed (inside (c .constants) x) 4 e))
+  field-small rowNumber x e = omega (arith, inside→ n x (passed (inside n x) 7 e))
+  field-small unused x e = omega (arith, eqb→eq x 0 (passed (eqb x 0) 4 e))
+
+  row-small : (f : Row) → judgeRow c n f ≡ 0 → 14 ≤ m → (f .kind ≤ m) × (f .first ≤ m) × (f .second ≤ m)
+  unfolding judgeRow
+  row-small f e w =
+      let (v, s, t) = both-passed (inside 14 (f .kind)) (judgeField c n (kindOf (f .kind) .first) (f .first)) (judgeField c n (kindOf (f .kind) .second) (f .second)) e in
+      (omega (arith, inside→ 14 (f .kind) v), field-small (kindOf (f .kind) .first) (f .first) s, field-small (kindOf (f .kind) .second) (f .second) t)
+
+  -- of a line that the machine has read
+  pub line-small : (y : Line) (x : ℕ) → x ≡ judgeRead (judgeFields c n) y → x ≡ 0 → 14 ≤ m → (getD (y .fields) 0 0 ≤ m) × (getD (y .fields) 1 0 ≤ m) × (getD (y .fields) 2 0 ≤ m)
+  unfolding judgeFields
+  line-small y x e z w = by (y .good) (sym e ∙ z)
+    where
+      by : (b : Bool) → cond b (cond (eqb (y .count) 3) (judgeRow c n (rowIn (y .fields))) 2) 2 ≡ 0
+          → (getD (y .fields) 0 0 ≤ m) × (getD (y .fields) 1 0 ≤ m) × (getD (y .fields) 2 0 ≤ m)
+      by true e = row-small (rowIn (y .fields)) (three-fields (eqb (y .count) 3) (y .count) (judgeRow c n (rowIn (y .fields))) refl e .1) w
+      by false e = absurd (omega arith)
 
 rows-snoc : (a : Automaton) (n m : ℕ) (rs : List Row) (r : Row) → n + length rs ≡ m → T (fitsRows a n rs) → T (fitsRow a m r) → T (fitsRows a n (rs ++ (r ∷ [])))
 rows-snoc a n m [] r e h k = let z : n ≡ m = omega arith in and-i (fitsRow a n r) true (rw z k) tt
@@ -98,10 +126,10 @@ module _ (a : Automaton) where
     used : 19 * q .count ≤ m
     fits : T (fitsRows a 0 (rowsOf (q .form) (q .count)))
 
-  after-row : (m : ℕ) (q : Rows) (fs : List ℕ) → Low (padded 6 fs) → judgeFields countsOf (q .count) (length fs) (padded 6 fs) ≡ 0 → m + (6 * length fs + 1) ≤ 608 → After m q
-      → After (m + (6 * length fs + 1)) (questionRules countsOf .accept q (padded 6 fs))
+  after-row : (m k : ℕ) (q : Rows) (fs : List ℕ) → judgeFields countsOf (q .count) (length fs) (padded 6 fs) ≡ 0 → 6 * length fs ≤ k → m + (k + 1) ≤ 608 → After m q
+      → After (m + (k + 1)) (questionRules countsOf .accept q (padded 6 fs))
   unfolding judgeFields
-  after-row m q fs l e h s =
+  after-row m l q fs e w h s =
       let n = q .count in
       let t = q .form in
       let r : Row = rowIn (padded 6 fs) in
@@ -126,7 +154,7 @@ module _ (a : Automaton) where
   pub question-form : (s : List ℕ) (q : Rows) → readQuestion (a .registers) (length (a .constants)) (a .locations) s ≡ accepted q → Asks (q .form) (q .count)
   unfolding readQuestion
   question-form s q e =
-      let k = file-keeps (questionRules countsOf) 2 608 (λ m x. (m ≤ 608) × After m x) (λ m x fs l j h p. (h, after-row m x fs l j h (p .1))) q nothingRead s (omega arith, begins) e in
+      let k = file-keeps (questionRules countsOf) 2 608 (λ m x. (m ≤ 608) × After m x) (λ m k x fs j w h p. (h, after-row m k x fs j w h (p .1))) q nothingRead s (omega arith, begins) e in
       let f = k .1 .1 in
       let t = q .form in
       let n = q .count in

@@ -4,6 +4,7 @@ use Prim.Native.Nat.{ℕ, _+_}
 use mathlib.Core.List.{List}
 use lib.Dec.{ltb}
 use Rattle.refusals.specs.Judged.{Judged}
+use Rattle.columns.specs.declared.Sheet.the-variants.{Plain}
 use Rattle.fields.specs.LineFiles.{Rules, readFile}
 use Rattle.forms.specs.QuestionForm.{noRows, put}
 use Rattle.questions.specs.declared.Counts.{Counts}
@@ -22,6 +23,7 @@ nothingRead = record { form = noRows; count = 0 }
 abbrev pub questionRules : Counts → Rules Rows
 questionRules c =
     record {
+      sheet = Plain;
       judge = λ q. judgeFields c (q .count);
       accept = λ q f. record { form = put (q .form) (q .count) (rowIn f); count = q .count + 1 };
       complete = λ q. ltb 0 (q .count);

@@ -9,6 +9,7 @@ ghost use Rattle.questions.specs.QuestionRules.{judgeNumber, judgeField,
 ghost use Rattle.questions.specs.Question.{questionRules, readQuestion};
 ghost use Rattle.questions.specs.QuestionReply.{replyOf, formOf};
 ghost use Rattle.questions.specs.RowsRead.{reading};
+use columns::Sheet;
 use fields::Line;
 use fields::Lines;
 use forms::Question;
@@ -23,17 +24,17 @@ pub struct Counts {
 }
 
 // 0 where x counts from 1 up to most, else the refusal.
-fn judge_number(refusal: u32, most: u32, x: u32) -> u32
+fn judge_number(refusal: u32, most: u32, x: u64) -> u32
     ensures { λ r. ⌜ r ≡ judgeNumber refusal most x ⌝ }
 {
-    if (1 <= x) & (x <= most) {
+    if (1 <= x) & (x <= most as u64) {
         return 0;
     }
     refusal
 }
 
 // The refusal of a field with the number x, or 0; n rows stand before.
-fn judge_field(c: Counts, n: u32, u: Use, x: u32) -> u32
+fn judge_field(c: Counts, n: u32, u: Use, x: u64) -> u32
     ensures { λ r. ⌜ r ≡ judgeField c n (useOf u) x ⌝ }
 {
     match u {
@@ -51,11 +52,11 @@ fn judge_field(c: Counts, n: u32, u: Use, x: u32) -> u32
 }
 
 // The refusal of a row, or 0: its values from left to right.
-pub fn judge_row(c: Counts, n: u32, k: u32, a: u32, b: u32) -> u32
+fn judge_numbers(c: Counts, n: u32, k: u64, a: u64, b: u64) -> u32
     ensures { λ r. ⌜ r ≡ judgeRow c n (row k a b) ⌝ }
 {
     if (1 <= k) & (k <= 14) {
-        let s = forms::shape_of(k);
+        let s = forms::shape_of(k as u32);
         let u = s.first;
         let v = s.second;
         let x = judge_field(c, n, u, a);
@@ -67,6 +68,13 @@ pub fn judge_row(c: Counts, n: u32, k: u32, a: u32, b: u32) -> u32
     5
 }
 
+// The same, of a row in 32 bits.
+pub fn judge_row(c: Counts, n: u32, k: u32, a: u32, b: u32) -> u32
+    ensures { λ r. ⌜ r ≡ judgeRow c n (row k a b) ⌝ }
+{
+    judge_numbers(c, n, k as u64, a as u64, b as u64)
+}
+
 // The refusal of a line, or 0.
 fn judge_line(c: Counts, n: u32, l: Line) -> u32
     ensures { λ r. ⌜ r ≡ judgeRead (judgeFields c n) l ⌝ }
@@ -74,7 +82,7 @@ fn judge_line(c: Counts, n: u32, l: Line) -> u32
     let f = l.fields;
     if l.good {
         if l.count == 3 {
-            return judge_row(c, n, f[0], f[1], f[2]);
+            return judge_numbers(c, n, f[0], f[1], f[2]);
         }
     }
     2
@@ -91,7 +99,10 @@ fn end_line(c: Counts, r: Lines, t: &mut [u32]) -> Lines
     let q = fields::with_line(r, x);
     if x == 0 {
         let f = l.fields;
-        forms::put_question_row(t, n, f[0], f[1], f[2]);
+        let k = fields::narrow(f[0]);
+        let a = fields::narrow(f[1]);
+        let b = fields::narrow(f[2]);
+        forms::put_question_row(t, n, k, a, b);
         return q;
     }
     q
@@ -105,7 +116,7 @@ fn feed(c: Counts, r: Lines, b: u8, t: &mut [u32]) -> Lines
     if fields::ends_line(r, b) {
         return end_line(c, r, t);
     }
-    fields::with_byte(r, b)
+    fields::with_byte(Sheet::Plain, r, b)
 }
 
 // The whole file, byte after byte.

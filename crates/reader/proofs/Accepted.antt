@@ -3,10 +3,14 @@
 use Prim.Native.Nat.{ℕ, zero, suc, _≤_, _<_}
 use mathlib.Core.Bool.{Bool, true, false, not, cond, _&&_, _||_, and-eq-true-iff}
 use mathlib.Core.List.{List}
-use mathlib.Core.Path.{_≡_, refl}
+use mathlib.Core.Path.{_≡_, refl, sym, _∙_, subst⁻¹}
 use borrow.Author.Tests.{leb-true, leb-false, ltb-true, eqb-true, eq-eqb, not-true}
 use native.Mathlib.Omega.{arith}
-use lib.Dec.{leb, ltb, eqb}
+use lib.Dec.{T, leb, ltb, eqb}
+use Rattle.columns.specs.Widths.{largest}
+use Rattle.fields.specs.Machine.{judgeRead}
+use Rattle.fields.specs.declared.Line.{Line}
+use Rattle.graphs.specs.Lists.{allOf}
 use Rattle.automata.specs.WellFormed.{inside}
 use Rattle.reader.specs.declared.Progress.{Progress}
 use Rattle.reader.specs.declared.Kind.{Kind}
@@ -113,12 +117,25 @@ line-passed p n f z =
     let h = passes (expected p k n) (crowded p k) (inRange p f) (inOrder p k (at f 1)) (eqb (at f 0) 1) z in
     (passed p k n (at f 1) (h .0) (h .1) (h .3), h .2)
 
+-- none of its numbers is larger than an identifier can be
+pub line-issued : (p : Progress) (n : ℕ) (f : List ℕ) → judgeLine p n f ≡ 0 → allOf (λ v. leb v largest) f ≡ true
+unfolding inRange
+line-issued p n f z = and2 (allOf (λ v. leb v largest) f) (fitFrom p true (kindOf (at f 0) .fields) f 1) (line-passed p n f z .1) .0
+
+-- of a line that the machine has read
+pub read-issued : (p : Progress) (l : Line) (n : ℕ) → n ≡ judgeRead (judgeLine p) l → n ≡ 0 → T (allOf (λ v. leb v largest) (l .fields))
+read-issued p l n e z = by (l .good) (sym e ∙ z)
+  where
+    by : (k : Bool) → cond k (judgeLine p (l .count) (l .fields)) 2 ≡ 0 → T (allOf (λ v. leb v largest) (l .fields))
+    by true e = subst⁻¹ T (line-issued p (l .count) (l .fields) e) tt
+    by false e = absurd (omega arith)
+
 no-kind : {A : Type 0} → false ≡ true → A
 no-kind e = let z : _≡_ {A = ℕ} 0 1 = cc in absurd (omega arith)
 
 pub stands : (p : Progress) (n : ℕ) (f : List ℕ) → judgeLine p n f ≡ 0 → Stands p f
 unfolding inRange kindAt
-stands p n f z = let (h, r) = line-passed p n f z in by (at f 0) refl h r
+stands p n f z = let (h, r) = line-passed p n f z in by (at f 0) refl h (and2 (allOf (λ v. leb v largest) f) (fitFrom p true (kindOf (at f 0) .fields) f 1) r .1)
   where
     by : (k : ℕ) → at f 0 ≡ k → Passed p (kindAt p k (at f 1)) n (at f 1) → fitFrom p true (kindOf k .fields) f 1 ≡ true → Stands p f
     by zero e h r = no-kind (h .due)

@@ -1,14 +1,17 @@
--- The counters stay small; a number that is no kind. Assumes nothing.
+-- The counters stay small; a number that is no kind; the six numbers of a row. Assumes nothing.
 use Prim.Native.Nat.{ℕ, zero, suc, _+_, _^_, _≤_, _<_}
 use native.Mathlib.Omega.{arith}
-use mathlib.Core.List.{List}
+use mathlib.Core.Bool.{Bool, true, cond, _&&_, and-assoc, and-true}
+use mathlib.Core.List.{List, [], _∷_}
 use lib.Dec.{eqb}
+use lib.ListN.{length}
+use Rattle.forms.proofs.FormRows.{six}
 use mathlib.Core.Logic.{_≢_}
 use mathlib.Core.Path.{_≡_, refl}
 use Rattle.reader.specs.TableRead.{Small}
 use Rattle.reader.specs.declared.Progress.{Progress}
 use Rattle.reader.specs.declared.Kind.{Kind}
-use Rattle.reader.specs.TableRules.{at, noKind, kindOf, kindAt, advance}
+use Rattle.reader.specs.TableRules.{at, noKind, kindOf, kindAt, expected, judgeValues, judgeLine, advance}
 use Rattle.graphs.proofs.Lists.{cond-le}
 
 pub row-low : (p : Progress) (k n : ℕ) → Small p 50000 → n < 2 ^ 32 → kindAt p k n .row ≤ 2 ^ 40
@@ -50,3 +53,22 @@ other (suc (suc (suc (suc (suc (suc zero)))))) a b c d e f g h = absurd (f refl)
 other (suc (suc (suc (suc (suc (suc (suc zero))))))) a b c d e f g h = absurd (g refl)
 other (suc (suc (suc (suc (suc (suc (suc (suc zero)))))))) a b c d e f g h = absurd (h refl)
 other (suc (suc (suc (suc (suc (suc (suc (suc (suc k))))))))) a b c d e f g h = refl
+
+-- a judgement does not look at a kind's row
+pub judge-kind : (p : Progress) (n : ℕ) (f : List ℕ) → cond (expected p (kindAt p (at f 0) 0) n) (judgeValues p (kindAt p (at f 0) 0) f) 2 ≡ judgeLine p n f
+unfolding judgeLine judgeValues kindAt
+judge-kind p n f = refl
+
+-- a row has six numbers
+pub six-numbers : (f : List ℕ) → length f ≡ 6 → six f ≡ f
+six-numbers [] h = absurd (omega arith)
+six-numbers (a ∷ []) h = absurd (omega arith)
+six-numbers (a ∷ b ∷ []) h = absurd (omega arith)
+six-numbers (a ∷ b ∷ c ∷ []) h = absurd (omega arith)
+six-numbers (a ∷ b ∷ c ∷ d ∷ []) h = absurd (omega arith)
+six-numbers (a ∷ b ∷ c ∷ d ∷ e ∷ []) h = absurd (omega arith)
+six-numbers (a ∷ b ∷ c ∷ d ∷ e ∷ g ∷ []) h = refl
+six-numbers (a ∷ b ∷ c ∷ d ∷ e ∷ g ∷ k ∷ f) h = absurd (omega arith)
+
+pub all-six : (a b c d e f : Bool) → (a && b && c && d && e && f) ≡ (a && (b && (c && (d && (e && (f && true))))))
+all-six a b c d e f = simp (and-assoc, and-true)

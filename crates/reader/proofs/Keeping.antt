@@ -1,21 +1,23 @@
 -- What holds of the progress and the form after every accepted line: the invariants behind `legal`.
 -- Assumes nothing.
-use Prim.Native.Nat.{ℕ, suc, _+_, _-_, _≤_, _<_}
+use Prim.Native.Nat.{ℕ, suc, _+_, _-_, _^_, _≤_, _<_}
 use mathlib.Core.Bool.{Bool, true, false}
 use mathlib.Core.List.{List}
 use mathlib.Core.Logic.{_≢_, _⊎_, inl, inr}
 use mathlib.Core.Option.{some}
-use mathlib.Core.Path.{_≡_, refl, sym, _∙_, subst}
+use mathlib.Core.Path.{_≡_, refl, sym, _∙_, subst, subst⁻¹}
 use borrow.Author.Count.{below-more}
 use borrow.Author.Tests.{leb-true, leb-false, eqb-true, eqb-false}
 use native.Mathlib.Omega.{arith}
-use lib.Dec.{leb, eqb}
-use lib.ListN.{length}
+use lib.Dec.{T, leb, eqb}
+use lib.ListN.{length, replicate}
+use Rattle.lists.proofs.Arrays.{zeros-at}
+use Rattle.columns.specs.Widths.{largest}
+use Rattle.graphs.proofs.Lists.{getD-le}
 use Rattle.reader.specs.declared.Progress.{Progress}
 use Rattle.forms.specs.TableForm.{formLength, countsRow, constantRows, actionRows, arityRow, startRow, startingRows, transitionRow, guardRows, assignmentRows, registerRow, cell, put}
-use Rattle.reader.specs.TableRules.{at, kindAt, advance, further, placed}
-use Rattle.reader.proofs.Accepted.{Inside, Stands, line1, line2, line3, line4, line5, line6, line7, line8}
-use Rattle.fields.proofs.Digits.{Low}
+use Rattle.reader.specs.TableRules.{at, kindAt, judgeLine, advance, further, placed}
+use Rattle.reader.proofs.Accepted.{Inside, line-issued, Stands, line1, line2, line3, line4, line5, line6, line7, line8}
 use Rattle.forms.proofs.FormRows.{InForm, in-form, rowAt, six, length-put, kept, written, low-put}
 use Rattle.reader.proofs.Shape.{ConditionRow, HeadRow, AssignmentRow, Guarded, TransitionRows}
 
@@ -74,10 +76,20 @@ pub record Moves (r c l m transition params conds stage : ℕ) (t : List ℕ) : 
   pub done : (i : ℕ) → i + 1 < transition → (n q : ℕ) × TransitionRows r c l m t i n q
   pub current : (i : ℕ) → i + 1 ≡ transition → (n : ℕ) × TransitionRows r c l m t i n params × (stage ≤ 5 → n ≡ conds)
 
+-- no number is larger than an identifier can be
+abbrev pub Issued : List ℕ → Type 0
+Issued t = (i : ℕ) → at t i < 2 ^ 32
+
+pub zeros-issued : (n : ℕ) → Issued (replicate n 0)
+zeros-issued n i = omega (arith, zeros-at n i)
+
+pub line-held : (p : Progress) (n : ℕ) (f : List ℕ) → judgeLine p n f ≡ 0 → Issued f
+line-held p n f z i = omega (arith, getD-le largest f i (subst⁻¹ T (line-issued p n f z) tt))
+
 pub record Sound (p : Progress) (t : List ℕ) : Type 0 where
   pub counted : Counted p
   pub size : length t ≡ formLength
-  pub low : Low t
+  pub issued : Issued t
   pub constants : Constants (p .ids) (p .newest) (p .stage) t
   pub arities : (i : ℕ) → i < p .acts → cell t (actionRows + i) 1 ≤ 3
   pub start : 4 ≤ p .stage → Inside (p .locations) (cell t startRow 1)
@@ -358,12 +370,12 @@ module _ (p : Progress) (f t : List ℕ) (s : Sound p t) where
       ))
       (s .moves))
 
-  pub sound-step : Low f → Stands p f → Sound (further p f t) (placed p f t)
+  pub sound-step : Issued f → Stands p f → Sound (further p f t) (placed p f t)
   sound-step l h =
       record {
         counted = counted-step p f _ n h;
         size = length-put t (kindAt p (at f 0) (at f 1) .row) f ∙ s .size;
-        low = low-put t (kindAt p (at f 0) (at f 1) .row) f l (s .low);
+        issued = low-put t (kindAt p (at f 0) (at f 1) .row) f l (s .issued);
         constants = constants-step h;
         arities = arities-step h;
         start = start-step h;

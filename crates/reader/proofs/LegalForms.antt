@@ -12,7 +12,6 @@ use Rattle.refusals.specs.Judged.{Judged, _then_}
 use Rattle.refusals.specs.Judged.Judged.{accepted, refused}
 use Rattle.lists.specs.Arrays.{padded}
 use Rattle.fields.specs.LineFiles.{readFile}
-use Rattle.fields.proofs.Digits.{Low, low-zeros}
 use Rattle.fields.proofs.LineFiles.{file-keeps}
 use Rattle.forms.specs.TableForm.{rowCount, formLength, countsRow, startingRows, cell}
 use Rattle.forms.proofs.FormRows.{length-without, cell-without}
@@ -21,10 +20,10 @@ use Rattle.reader.specs.TableRules.{kindAt, advance, further, placed, at
 use Rattle.reader.specs.Table.{Read, tableRules, blankForm, readForm, readTable, readTarget}
 use Rattle.reader.proofs.Accepted.{Stands, stands, line1, line2, line3, line4, line5, line6, line7, line8}
 use Rattle.reader.proofs.Shape.{TransitionRows, Legal, LegalTarget}
-use Rattle.reader.proofs.Keeping.{Counted, Sound, sound-step, HeadedBy, headed-step}
+use Rattle.reader.proofs.Keeping.{Issued, zeros-issued, line-held, Counted, Sound, sound-step, HeadedBy, headed-step}
 
 -- what every line that is accepted keeps holds at the end of a file that is read
-module _ (Q : Progress → List ℕ → Type 0) (step : (p : Progress) (f t : List ℕ) → Low f → Stands p f → Q p t → Q (further p f t) (placed p f t)) where
+module _ (Q : Progress → List ℕ → Type 0) (step : (p : Progress) (f t : List ℕ) → Issued f → Stands p f → Q p t → Q (further p f t) (placed p f t)) where
   form-keeps : (file limit : ℕ) (p : Progress) (s u : List ℕ) → Q p blankForm → readForm file limit p s ≡ accepted u → (q : Progress) × Q q u × (complete q ≡ true)
   form-keeps file limit p s u h e = by (readFile tableRules file limit begun s) refl e
     where
@@ -36,7 +35,7 @@ module _ (Q : Progress → List ℕ → Type 0) (step : (p : Progress) (f t : Li
       by (accepted x) z e =
           let same : x .form ≡ u = cc in
           let k = file-keeps tableRules file limit (λ m y. Q (y .progress) (y .form))
-          (λ m y fs l j w q. step (y .progress) (padded 6 fs) (y .form) l (stands (y .progress) (length fs) (padded 6 fs) j) q) x begun s h z in
+          (λ m k y fs j w v q. step (y .progress) (padded 6 fs) (y .form) (line-held (y .progress) (length fs) (padded 6 fs) j) (stands (y .progress) (length fs) (padded 6 fs) j) q) x begun s h z in
           (x .progress, subst (Q (x .progress)) same (k .1), k .2)
 
 pub completed : (p : Progress) → complete p ≡ true → (4 ≤ p .stage) × (p .transitions ≤ p .transition)
@@ -53,7 +52,7 @@ blank-sound p n a b h =
     record {
       counted = n;
       size = length-without rowCount;
-      low = low-zeros formLength;
+      issued = zeros-issued formLength;
       constants = record { second = λ e g. absurd (omega arith); rise = λ e. absurd (omega arith) };
       arities = λ i k. absurd (omega arith);
       start = λ k. absurd (omega arith);
@@ -86,7 +85,7 @@ legal-end p t s h c =
     let b = s .start (d .0) in
     record {
       size = s .size;
-      low = s .low;
+      issued = s .issued;
       registers = omega (arith, h .head1, n .registers-low);
       constants = omega (arith, h .head2, n .constants-low);
       locations = rw (h .head3) (omega (arith, n .locations-low));
@@ -115,7 +114,7 @@ record Aimed (r c l : ℕ) (p : Progress) (t : List ℕ) : Type 0 where
   same3 : p .locations ≡ l
   beyond : 3 ≤ p .stage
 
-aimed-step : (r c l : ℕ) (p : Progress) (f t : List ℕ) → Low f → Stands p f → Aimed r c l p t → Aimed r c l (further p f t) (placed p f t)
+aimed-step : (r c l : ℕ) (p : Progress) (f t : List ℕ) → Issued f → Stands p f → Aimed r c l p t → Aimed r c l (further p f t) (placed p f t)
 unfolding advance kindAt
 aimed-step r c l p f t x h s =
     let g = same h in
@@ -135,7 +134,7 @@ target-end : (r c l : ℕ) (p : Progress) (t : List ℕ) → Sound p t → p .re
 target-end r c l p t s x y z e =
     record {
       size = s .size;
-      low = s .low;
+      issued = s .issued;
       location = rw (← z) (s .start (completed p e .0));
       conditions = s .starting .starts;
       guard = rw (← x, ← y) (s .starting .starting);

@@ -1,6 +1,6 @@
 -- The shape of the form of a table that is read (`Legal`), and of a target (`LegalTarget`): what later code may rely on, by rows and columns.
 -- Assumes nothing.
-use Prim.Native.Nat.{ℕ, _+_, _≤_, _<_}
+use Prim.Native.Nat.{ℕ, _+_, _^_, _≤_, _<_}
 use mathlib.Core.List.{List}
 use mathlib.Core.Logic.{_⊎_}
 use mathlib.Core.Path.{_≡_}
@@ -48,7 +48,7 @@ pub record TransitionRows (r c l m : ℕ) (t : List ℕ) (i n q : ℕ) : Type 0 
 -- The form of a table that is read: sizes, counts and numbers
 pub record Legal (t : List ℕ) : Type 0 where
   pub size : length t ≡ formLength
-  pub low : (i : ℕ) → at t i < 1000000
+  pub issued : (i : ℕ) → at t i < 2 ^ 32
   pub registers : cell t countsRow 1 ≤ 5
   pub constants : cell t countsRow 2 ≤ 2
   pub locations : Inside 16 (cell t countsRow 3)
@@ -64,7 +64,7 @@ pub record Legal (t : List ℕ) : Type 0 where
 -- the form of a target that is read, for r registers, c constants and l locations
 pub record LegalTarget (r c l : ℕ) (t : List ℕ) : Type 0 where
   pub size : length t ≡ formLength
-  pub low : (i : ℕ) → at t i < 1000000
+  pub issued : (i : ℕ) → at t i < 2 ^ 32
   pub location : Inside l (cell t startRow 1)
   pub conditions : ℕ
   pub guard : Guarded r 0 c t startingRows conditions

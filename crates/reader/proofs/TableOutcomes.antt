@@ -1,11 +1,14 @@
 -- What a caller learns of the reader's reply. Assumes nothing.
-use Prim.Native.Nat.{ℕ, _≤_}
-use mathlib.Core.List.{List}
+use Prim.Native.Nat.{ℕ, _≤_, _<_}
+use mathlib.Core.Bool.{true}
+use mathlib.Core.List.{List, [], _∷_}
 use mathlib.Core.Path.{_≡_, refl, sym, _∙_, ap}
+use borrow.Author.Tests.{lt-leb}
 use native.Mathlib.Omega.{arith}
 use lib.Dec.{eqb}
 use Rattle.refusals.specs.Judged.{Judged, _then_}
 use Rattle.refusals.specs.Judged.Judged.{accepted, refused}
+use Rattle.columns.specs.Widths.{largest}
 use Rattle.fields.specs.LineFiles.{readFile}
 use Rattle.fields.proofs.LineFiles.{Numbered, file-numbers}
 use Rattle.reader.specs.declared.Progress.{Progress}
@@ -25,6 +28,13 @@ accepted-table (refused r) v e = let z : _≡_ {A = ℕ} 0 1 = cc in absurd (ome
 -- of a reader's reply r and form u, where the form was v
 pub told : (o : Judged (List ℕ)) (r : Reply) (v u : List ℕ) → r ≡ replyOf o → u ≡ formOf o v → r ≡ Accepted → o ≡ accepted u
 told o r v u e f g = accepted-table o v (sym e ∙ g) ∙ ap accepted (sym f)
+
+-- A number that is too large
+
+-- a line 2 that may stand here and names more than the largest identifier: 5, whatever went before
+pub too-large : (p : Progress) (v : ℕ) → expected p (kindAt p 2 v) 2 ≡ true → largest < v → judgeLine p 2 (2 ∷ v ∷ 0 ∷ 0 ∷ 0 ∷ 0 ∷ []) ≡ 5
+unfolding judgeLine judgeValues inRange kindAt
+too-large p v e h = rw (e, lt-leb v largest h)
 
 -- A refusal's number is one of document 01's
 

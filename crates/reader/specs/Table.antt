@@ -4,6 +4,7 @@ use Prim.Native.Nat.{ℕ}
 use mathlib.Core.List.{List}
 use Rattle.refusals.specs.Judged.{Judged, _then_}
 use Rattle.refusals.specs.Judged.Judged.{accepted}
+use Rattle.columns.specs.declared.Sheet.the-variants.{Table as OnTable}
 use Rattle.fields.specs.LineFiles.{Rules, readFile}
 use Rattle.forms.specs.TableForm.{rowCount, countsRow, cell, without}
 use Rattle.reader.specs.declared.Progress.{Progress}
@@ -18,6 +19,7 @@ pub record Read : Type 0 where
 abbrev pub tableRules : Rules Read
 tableRules =
     record {
+      sheet = OnTable;
       judge = λ x. judgeLine (x .progress);
       accept = λ x f. record { progress = further (x .progress) f (x .form); form = placed (x .progress) f (x .form) };
       complete = λ x. complete (x .progress);

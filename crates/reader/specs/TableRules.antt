@@ -5,6 +5,8 @@ use mathlib.Core.Bool.{Bool, true, false, cond, not, _&&_, _||_}
 use mathlib.Core.List.{List, [], _∷_}
 use lib.Dec.{leb, ltb, eqb}
 use lib.ListN.{getD}
+use Rattle.columns.specs.Widths.{largest}
+use Rattle.graphs.specs.Lists.{allOf}
 use Rattle.automata.specs.WellFormed.{inside}
 use Rattle.forms.specs.TableForm.{cell, put, countsRow, constantRows, actionRows, startRow, startingRows, transitionRow, guardRows, assignmentRows, arityRow}
 use Rattle.reader.specs.declared.Progress.{Progress}
@@ -74,24 +76,24 @@ abbrev pub kindOf : ℕ → LineKind
 kindOf k = getD kinds k noKind
 
 -- how many numbers these fields have
-abbrev pub columns : Use → ℕ
-columns (upTo n) = 1
-columns (oneTo n) = 1
-columns identifier = 1
-columns location = 1
-columns action = 1
-columns register = 1
-columns term = 2
+abbrev pub numbersOf : Use → ℕ
+numbersOf (upTo n) = 1
+numbersOf (oneTo n) = 1
+numbersOf identifier = 1
+numbersOf location = 1
+numbersOf action = 1
+numbersOf register = 1
+numbersOf term = 2
 
-abbrev pub width : List Use → ℕ
-width [] = 0
-width (u ∷ us) = columns u + width us
+abbrev pub numbersIn : List Use → ℕ
+numbersIn [] = 0
+numbersIn (u ∷ us) = numbersOf u + numbersIn us
 
 -- what the table says of a line of kind k with the first number n after p, but for its fields' ranges
 unfoldable pub kindAt : Progress → ℕ → ℕ → Kind
 kindAt p k n =
     record {
-      fields = 1 + width (kindOf k .fields);
+      fields = 1 + numbersIn (kindOf k .fields);
       from = kindOf k .from;
       to = kindOf k .to;
       next = kindOf k .next;
@@ -128,11 +130,11 @@ fits p term x y = hasTerm p x y
 -- those before are in their ranges, and so are these fields from number i on
 abbrev pub fitFrom : Progress → Bool → List Use → List ℕ → ℕ → Bool
 fitFrom p before [] f i = before
-fitFrom p before (u ∷ us) f i = fitFrom p (before && fits p u (at f i) (at f (suc i))) us f (columns u + i)
+fitFrom p before (u ∷ us) f i = fitFrom p (before && fits p u (at f i) (at f (suc i))) us f (numbersOf u + i)
 
--- every number is in its range
+-- every number is in its range, and none is larger than an identifier can be
 unfoldable pub inRange : Progress → List ℕ → Bool
-inRange p f = fitFrom p true (kindOf (at f 0) .fields) f 1
+inRange p f = allOf (λ v. leb v largest) f && fitFrom p true (kindOf (at f 0) .fields) f 1
 
 -- the first number n is larger than that of the line of its kind before it, if this kind rises
 abbrev pub inOrder : Progress → Kind → ℕ → Bool

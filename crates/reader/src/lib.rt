@@ -1,18 +1,25 @@
 // The reader of tables and targets: the rules for their lines, and the loop over their bytes.
 ghost use mathlib.Core.Path.{_≡_};
-ghost use mathlib.Core.Bool.{cond};
+ghost use mathlib.Core.Bool.{true, cond};
 ghost use Prim.Native.Nat.{ℕ, _+_, _≤_};
+ghost use lib.Dec.{T, leb};
 ghost use lib.ListN.{length};
+ghost use Rattle.columns.specs.Widths.{largest};
+ghost use Rattle.graphs.specs.Lists.{allOf};
 ghost use Rattle.automata.specs.WellFormed.{inside};
 ghost use Rattle.fields.specs.Machine.{between, judgeRead, ended, fed, run};
-ghost use Rattle.reader.specs.TableRules.{hasTerm, kindAt, expected, inRange, judgeValues, judgeLine, advance, further, placed, complete};
+ghost use Rattle.reader.specs.TableRules.{at, kindOf, hasTerm, kindAt, expected, fitFrom, inRange, judgeValues, judgeLine, advance, further, placed, complete};
 ghost use Rattle.reader.specs.Table.{tableRules, readForm, readTable, readTarget};
 ghost use Rattle.reader.specs.TableReply.{replyOf, formOf};
 ghost use Rattle.reader.specs.TableRead.{reading, Small};
+use columns::Sheet;
 use fields::Line;
 use fields::Lines;
 use forms::Form;
 use refusals::Refusal;
+
+// The largest identifier.
+const LARGEST: u64 = 4294967295;
 
 // How far a table is read. Locations are document 01's places, transitions its arcs.
 pub struct Progress {
@@ -38,15 +45,21 @@ pub struct Progress {
     pub newest: u32,
 }
 
+fn at_most(n: u64, most: u32) -> bool
+    ensures { λ r. ⌜ r ≡ leb n most ⌝ }
+{
+    n <= most as u64
+}
+
 // The number n counts from 1 up to most.
-fn in_count(n: u32, most: u32) -> bool
+fn in_count(n: u64, most: u32) -> bool
     ensures { λ r. ⌜ r ≡ inside most n ⌝ }
 {
-    (1 <= n) & (n <= most)
+    (1 <= n) & at_most(n, most)
 }
 
 // The table has the term of kind k and number n here.
-fn has_term(p: Progress, k: u32, n: u32) -> bool
+fn has_term(p: Progress, k: u64, n: u64) -> bool
     ensures { λ r. ⌜ r ≡ hasTerm p k n ⌝ }
 {
     let register = (k == 1) & in_count(n, p.registers);
@@ -98,7 +111,7 @@ fn kind_with(
 }
 
 // The kind k of a line with the first number n.
-fn kind_at(p: Progress, k: u32, n: u32) -> Kind
+fn kind_at(p: Progress, k: u64, n: u32) -> Kind
     requires { ⌜ Small p 50000 ⌝ }
     ensures { λ r. ⌜ r ≡ kindAt p k n ⌝ }
 {
@@ -167,9 +180,21 @@ fn may_stand(p: Progress, k: Kind, n: usize) -> bool
     (n == k.fields) & (k.from <= p.stage) & (p.stage <= k.to) & k.due
 }
 
-// Every number is in its range.
-fn has_range(p: Progress, f: [u32; 6]) -> bool
-    ensures { λ r. ⌜ r ≡ inRange p f ⌝ }
+// No number is larger than an identifier can be.
+fn are_issued(f: [u64; 6]) -> bool
+    ensures { λ r. ⌜ r ≡ allOf (λ v. leb v largest) f ⌝ }
+{
+    (f[0] <= LARGEST)
+        & (f[1] <= LARGEST)
+        & (f[2] <= LARGEST)
+        & (f[3] <= LARGEST)
+        & (f[4] <= LARGEST)
+        & (f[5] <= LARGEST)
+}
+
+// The fields of a line of its kind are in their ranges.
+fn are_fit(p: Progress, f: [u64; 6]) -> bool
+    ensures { λ r. ⌜ r ≡ fitFrom p true (kindOf (at f 0) .fields) f 1 ⌝ }
 {
     let a = f[1];
     let b = f[2];
@@ -189,15 +214,23 @@ fn has_range(p: Progress, f: [u32; 6]) -> bool
     }
 }
 
+// Every number is in its range.
+fn has_range(p: Progress, f: [u64; 6]) -> bool
+    ensures { λ r. ⌜ r ≡ inRange p f ⌝ }
+{
+    are_issued(f) & are_fit(p, f)
+}
+
 // The refusal of a line of kind k that may stand here, or 0.
-fn judge_values(p: Progress, k: Kind, f: [u32; 6]) -> u32
+fn judge_values(p: Progress, k: Kind, f: [u64; 6]) -> u32
     ensures { λ r. ⌜ r ≡ judgeValues p k f ⌝ }
 {
     if k.condition & (8 <= p.conds) {
         return 6;
     }
     if has_range(p, f) {
-        if !(k.rising & (p.stage == k.next) & (f[1] <= p.newest)) {
+        let behind = at_most(f[1], p.newest);
+        if !(k.rising & (p.stage == k.next) & behind) {
             return 0;
         }
         return 4;
@@ -209,11 +242,12 @@ fn judge_values(p: Progress, k: Kind, f: [u32; 6]) -> u32
 }
 
 // The refusal of a line of n fields, or 0.
-fn judge_fields(p: Progress, n: usize, f: [u32; 6]) -> u32
+fn judge_fields(p: Progress, n: usize, f: [u64; 6]) -> u32
     requires { ⌜ Small p 50000 ⌝ }
     ensures { λ r. ⌜ r ≡ judgeLine p n f ⌝ }
 {
-    let k = kind_at(p, f[0], f[1]);
+    // the row is not asked for
+    let k = kind_at(p, f[0], 0);
     if may_stand(p, k, n) {
         return judge_values(p, k, f);
     }
@@ -264,6 +298,21 @@ fn advanced(p: Progress, k: Kind, f: [u32; 6], a: u32) -> Progress
     }
 }
 
+// The numbers of a line that is accepted, in 32 bits.
+fn row_of(f: [u64; 6]) -> [u32; 6]
+    requires { ⌜ T (allOf (λ v. leb v largest) f) ⌝ }
+    ensures { λ r. ⌜ r ≡ f ⌝ }
+{
+    [
+        fields::narrow(f[0]),
+        fields::narrow(f[1]),
+        fields::narrow(f[2]),
+        fields::narrow(f[3]),
+        fields::narrow(f[4]),
+        fields::narrow(f[5]),
+    ]
+}
+
 // A line is accepted: its numbers go to its row.
 fn accept(p: Progress, f: [u32; 6], t: &mut [u32]) -> Progress
     requires { ⌜ Small p 50000 ⌝ }
@@ -271,7 +320,7 @@ fn accept(p: Progress, f: [u32; 6], t: &mut [u32]) -> Progress
 {
     let action = f[2] as usize;
     let params = forms::cell(t, forms::ARITY_ROWS + action, 1);
-    let k = kind_at(p, f[0], f[1]);
+    let k = kind_at(p, f[0] as u64, f[1]);
     forms::put_row(t, k.row, f);
     advanced(p, k, f, params)
 }
@@ -294,7 +343,8 @@ fn end_line(r: Reader, t: &mut [u32]) -> Reader
     let next = fields::with_line(lines, n);
     if n == 0 {
         let f = l.fields;
-        let q = accept(p, f, t);
+        let row = row_of(f);
+        let q = accept(p, row, t);
         return Reader {
             progress: q,
             lines: next,
@@ -316,7 +366,7 @@ fn feed(r: Reader, b: u8, t: &mut [u32]) -> Reader
         return end_line(r, t);
     }
     let p = r.progress;
-    let next = fields::with_byte(lines, b);
+    let next = fields::with_byte(Sheet::Table, lines, b);
     Reader {
         progress: p,
         lines: next,

@@ -1,8 +1,8 @@
 // Prints the answers for the cases of the data folder, one after another: a line with the case's number, then its printout.
 
-// The files 01.table, 01.target, 02.table, .. (the engine's src/trials/answers.rs says what each case is). Cases 1 to 10, 18 and 19 have a target, those from 22 on a question as text (22.text), the others a question.
+// The files 01.table, 01.target, 02.table, .. (the engine's src/trials/answers.rs says what each case is). Cases 1 to 10, 18, 19 and 37 to 43 have a target, 22 to 36, 46 and 47 a question as text (22.text), the others a question.
 // In cases 9, 10, 15, 16, 33, 34 a file is missing, in cases 18 to 21, 35 and 36 a folder stands in its place.
-const CASES: u32 = 36;
+const CASES: u32 = 47;
 
 fn digit(n: u32) -> u8 {
     48 + (n % 10) as u8
@@ -33,7 +33,11 @@ fn text_case(a: u8, b: u8) -> bool {
 }
 
 fn has_target(i: u32) -> bool {
-    (i <= 10) | (i == 18) | (i == 19)
+    (i <= 10) | (i == 18) | (i == 19) | ((37 <= i) & (i <= 43))
+}
+
+fn has_text(i: u32) -> bool {
+    ((22 <= i) & (i <= 36)) | (46 <= i)
 }
 
 fn show(i: u32) -> bool {
@@ -45,7 +49,7 @@ fn show(i: u32) -> bool {
     if has_target(i) {
         return reach_case(a, b);
     }
-    if 22 <= i {
+    if has_text(i) {
         return text_case(a, b);
     }
     ask_case(a, b)

@@ -1,11 +1,11 @@
 -- A file that is read is the one that is written of what it says (`table-canonical`, `target-canonical`): no other bytes say the same.
 -- Assumes nothing.
-use Prim.Native.Nat.{ℕ, _≤_}
+use Prim.Native.Nat.{ℕ, _+_, _*_, _≤_}
 use mathlib.Core.Bool.{true}
 use mathlib.Core.List.{List}
 use mathlib.Core.Path.{_≡_, refl, sym, _∙_, ap, subst}
 use native.Mathlib.Omega.{arith}
-use lib.Dec.{T, ltb, lt→ltb}
+use lib.Dec.{T, leb, le→leb}
 use lib.ListN.{length}
 use Rattle.refusals.specs.Judged.Judged.{accepted}
 use Rattle.refusals.proofs.Composed.{then-accepted}
@@ -21,8 +21,10 @@ use Rattle.reader.proofs.Keeping.{Sound, HeadedBy, headed-step}
 use Rattle.reader.proofs.LegalForms.{completed, blank-sound, legal-end, legal, target-legal}
 use Rattle.reader.proofs.Present.{upFrom-all}
 use Rattle.forms.proofs.Encoding.{lines-le}
+use Rattle.columns.specs.declared.Sheet.the-variants.{Table}
+use Rattle.columns.specs.Widths.{largest}
 use Rattle.columns.specs.Columns.{fileBytes}
-use Rattle.writing.specs.Lines.{tableLines, targetLines, tableBytes, targetBytes, sixDigits}
+use Rattle.writing.specs.Lines.{tableLines, targetLines, tableBytes, targetBytes, issued}
 use Rattle.writing.proofs.Reading.{Taken, file-written}
 use Rattle.writing.proofs.FormFilling.{lineAt, lines-rest, Marked, MarkedBy, Filled, blank-filled, lines-filled}
 use Rattle.writing.proofs.Formed.{form-lines, target-lines}
@@ -32,7 +34,7 @@ abbrev pub begun : Progress → Read
 begun p = record { progress = p; form = blankForm }
 
 -- a form that is read is written of lines that are taken
-form-written : (file limit : ℕ) (p : Progress) (s t : List ℕ) → readForm file limit p s ≡ accepted t → (rs : List (List ℕ)) × (u : Read) × (s ≡ fileBytes rs) × Taken tableRules rs (begun p) u × (u .form ≡ t)
+form-written : (file limit : ℕ) (p : Progress) (s t : List ℕ) → readForm file limit p s ≡ accepted t → (rs : List (List ℕ)) × (u : Read) × (s ≡ fileBytes Table rs) × Taken tableRules rs (begun p) u × (u .form ≡ t)
 form-written file limit p s t e =
     let (u, read, same) = then-accepted (readFile tableRules file limit (begun p) s) (λ x. accepted (x .form)) t e in
     let (short, (rs, f, taken)) = file-written tableRules file u limit (begun p) s read in
@@ -74,12 +76,12 @@ lines-table rs u taken =
 pub table-canonical : (s t : List ℕ) → readTable s ≡ accepted t → s ≡ tableBytes (automatonOf t)
 table-canonical s t e =
     let (rs, u, f, taken, form) = form-written 1 40000 atStart s t e in
-    f ∙ ap fileBytes (lines-table rs u taken .0) ∙ ap (λ x. tableBytes (automatonOf x)) form
+    f ∙ ap (fileBytes Table) (lines-table rs u taken .0) ∙ ap (λ x. tableBytes (automatonOf x)) form
 
--- the constants of a table that is read have at most six digits
-pub table-digits : (s t : List ℕ) → readTable s ≡ accepted t → T (sixDigits (automatonOf t))
+-- the constants of a table that is read are identifiers
+pub table-issued : (s t : List ℕ) → readTable s ≡ accepted t → T (issued (automatonOf t))
 unfolding automatonOf
-table-digits s t e = let n = legal s t e in upFrom-all (λ v. ltb v 1000000) (λ i. cell t i 1) constantRows (cell t countsRow 2) (λ x u v. lt→ltb (cell t x 1) 1000000 (n .low _))
+table-issued s t e = let n = legal s t e in upFrom-all (λ v. leb v largest) (λ i. cell t i 1) constantRows (cell t countsRow 2) (λ x u v. le→leb (cell t x 1) largest (omega (arith, n .issued (6 * x + 1))))
 
 -- Targets
 
@@ -129,7 +131,7 @@ lines-target r c l rs u x y z taken n =
 aim-canonical : (r c l : ℕ) (s u : List ℕ) → r ≤ 5 → c ≤ 2 → l ≤ 16 → readForm 2 309 (beforeTarget r c l) s ≡ accepted u → s ≡ targetBytes (targetOf u)
 aim-canonical r c l s u x y z e =
     let (rs, v, f, taken, form) = form-written 2 309 (beforeTarget r c l) s u e in
-    f ∙ ap fileBytes (lines-target r c l rs v x y z taken (subst (LegalTarget r c l) (sym form) (target-legal r c l s u x y z e))) ∙ ap (λ x. targetBytes (targetOf x)) form
+    f ∙ ap (fileBytes Table) (lines-target r c l rs v x y z taken (subst (LegalTarget r c l) (sym form) (target-legal r c l s u x y z e))) ∙ ap (λ x. targetBytes (targetOf x)) form
 
 -- of the table with the form t
 pub target-canonical : (t s u : List ℕ) → Legal t → readTarget t s ≡ accepted u → s ≡ targetBytes (targetOf u)

@@ -14,20 +14,21 @@ use Rattle.lists.specs.Arrays.{padded}
 use Rattle.forms.specs.TableForm.{rowCount, formLength, cell, put, countsRow, constantRows, actionRows, arityRow, startRow, startingRows, transitionRow, guardRows, assignmentRows, registerRow, transitionSize}
 use Rattle.forms.specs.FormAutomaton.{present}
 use Rattle.reader.specs.declared.Progress.{Progress}
-use Rattle.reader.specs.TableRules.{at, kindOf, width, kindAt, judgeLine, advance, further, placed, complete}
+use Rattle.reader.specs.TableRules.{at, kindOf, numbersIn, kindAt, judgeLine, advance, further, placed, complete}
 use Rattle.reader.specs.Table.{Read, tableRules, blankForm}
 use Rattle.reader.proofs.Accepted.{Stands, stands, line1, line2, line3, line4, line5, line6, line7, line8, Passed, line-passed}
 use Rattle.forms.proofs.FormRows.{InForm, rowAt, six, cell-without, kept, written}
-use Rattle.reader.proofs.Keeping.{Counted, Sound, sound-step}
+use Rattle.reader.proofs.Keeping.{line-held, Counted, Sound, sound-step}
+use Rattle.columns.specs.declared.Sheet.the-variants.{Table}
 use Rattle.reader.proofs.Present.{holds-none}
 use Rattle.writing.proofs.Selected.{gather-split, gather-none, gather-agree, gather-one}
-use Rattle.writing.proofs.Reading.{Plain, plain-row, Taken, taken-keeps}
+use Rattle.writing.proofs.Reading.{Written, Taken, taken-keeps}
 
 -- Lines in rows
 
 -- how many numbers a line of kind k has
 abbrev pub kindWidth : ℕ → ℕ
-kindWidth k = 1 + width (kindOf k .fields)
+kindWidth k = 1 + numbersIn (kindOf k .fields)
 
 -- the line of a row
 abbrev pub lineOf : List ℕ → List ℕ
@@ -240,7 +241,7 @@ marks-step p t f w st c x m = by-cases (ℕ-discrete x (home p f)) here other
     other : x ≢ home p f → MarkedBy (further p f t) x (cell (placed p f t) x 0)
     other y = subst (λ r. MarkedBy (further p f t) x (at r 0)) (sym (other-row t (home p f) f x y)) (marked-old p f a x (cell t x 0) y st m)
 
-filled-step : (p : Progress) (t : List ℕ) (done : List (List ℕ)) (vs : List ℕ) → Plain vs → judgeLine p (length vs) (padded 6 vs) ≡ 0 → Sound p t → Filled p t done
+filled-step : (p : Progress) (t : List ℕ) (done : List (List ℕ)) (vs : List ℕ) → Written Table vs → judgeLine p (length vs) (padded 6 vs) ≡ 0 → Sound p t → Filled p t done
     → Filled (further p (padded 6 vs) t) (placed p (padded 6 vs) t) (done ++ (vs ∷ []))
 unfolding kindAt
 filled-step p t done vs l z s g =
@@ -248,7 +249,7 @@ filled-step p t done vs l z s g =
     let st : Stands p f = stands p (length vs) f z in
     let pass = line-passed p (length vs) f z .0 in
     let b = used-step p f (cell t (arityRow (at f 2)) 1) (g .used) (s .counted) (rises p (length vs) f pass) (g .bounds) st in
-    let s′ = sound-step p f t s (plain-row vs l) st .counted in
+    let s′ = sound-step p f t s (line-held p (length vs) f z) st .counted in
     let room : 6 * home p f + 5 < length t = omega (arith, s .size, b .1 .transitions, s′ .transition-low, s′ .transitions-low) in
     record {
       used = suc (home p f);
@@ -270,7 +271,7 @@ module _ (Q : Progress → List ℕ → Type 0) (step : (p : Progress) (f t : Li
       taken-keeps tableRules Standing
       (λ done y vs l z q.
       let st : Stands (y .progress) (padded 6 vs) = stands (y .progress) (length vs) (padded 6 vs) z in (
-        sound-step (y .progress) (padded 6 vs) (y .form) (q .0) (plain-row vs l) st,
+        sound-step (y .progress) (padded 6 vs) (y .form) (q .0) (line-held (y .progress) (length vs) (padded 6 vs) z) st,
         step (y .progress) (padded 6 vs) (y .form) (q .0 .size) st (q .1),
         filled-step (y .progress) (y .form) done vs l z (q .0) (q .2),
       ))

@@ -9,6 +9,8 @@ use borrow.Author.Tests.{le-leb, lt-leb, lt-ltb}
 use native.Mathlib.Decide.{ℕ-discrete}
 use native.Mathlib.Omega.{arith}
 use lib.Dec.{T, leb, ltb, eqb, leb→le, ltb→lt}
+use Rattle.columns.specs.declared.Sheet.the-variants.{Table}
+use Rattle.columns.specs.Widths.{largest}
 use lib.Ieee.Fits.{and-l, and-r}
 use lib.ListN.{length, getD, length-replicate}
 use Rattle.graphs.specs.Lists.{allOf}
@@ -22,19 +24,23 @@ use Rattle.lists.specs.Arrays.{padded}
 use Rattle.forms.specs.TableForm.{rowCount, formLength, cell, put, actionRows, arityRow, startRow, startingRows, transitionRow, assignmentRows}
 use Rattle.forms.proofs.Forms.{Limits, limits}
 use Rattle.reader.specs.declared.Progress.{Progress}
-use Rattle.reader.specs.TableRules.{at, line, always, kindOf, conditionFields, kindAt, inRange, judgeLine, advance, further, placed, atStart, beforeTarget, complete}
+use Rattle.reader.specs.TableRules.{at, line, always, kindOf, conditionFields, kindAt, judgeLine, advance, further, placed, atStart, beforeTarget, complete}
 use Rattle.reader.specs.Table.{Read, tableRules, blankForm}
 use Rattle.forms.proofs.FormRows.{length-without, length-put, kept, written}
-use Rattle.writing.specs.Lines.{conditionLine, assignmentLine, transitionsLines, headLine, tableLines, targetLines, sixDigits}
-use Rattle.writing.proofs.Reading.{Plain, Taken}
-use Rattle.writing.proofs.Accepting.{accepts, in-order, condition-range, assignment-range, plain2, plain4, plain6, condition-plain, assignment-plain}
+use Rattle.writing.specs.Lines.{conditionLine, assignmentLine, transitionsLines, headLine, tableLines, targetLines, issued}
+use Rattle.writing.proofs.Reading.{Written, Taken}
+use Rattle.writing.proofs.Accepting.{accepts, in-order, condition-range, assignment-range, Low, low-written, low-issued, constant-written, low2, low4, low6, condition-low, assignment-low}
 
 -- the lines are taken, the first after p, and something is read
 abbrev pub Takes : Progress → List ℕ → List (List ℕ) → Type 0
 Takes p t rs = (u : Read) × Taken tableRules rs (record { progress = p; form = t }) u
 
-take-line : (p : Progress) (t vs : List ℕ) (rs : List (List ℕ)) → Plain vs → judgeLine p (length vs) (padded 6 vs) ≡ 0 → Takes (further p (padded 6 vs) t) (placed p (padded 6 vs) t) rs → Takes p t (vs ∷ rs)
+take-line : (p : Progress) (t vs : List ℕ) (rs : List (List ℕ)) → Written Table vs → judgeLine p (length vs) (padded 6 vs) ≡ 0 → Takes (further p (padded 6 vs) t) (placed p (padded 6 vs) t) rs → Takes p t (vs ∷ rs)
 take-line p t vs rs h j (u, taken) = (u, (h, j, taken))
+
+-- a line of six digits
+take-low : (p : Progress) (t vs : List ℕ) (rs : List (List ℕ)) → Low vs → (allOf (λ v. leb v largest) (padded 6 vs) ≡ true → judgeLine p (length vs) (padded 6 vs) ≡ 0) → Takes (further p (padded 6 vs) t) (placed p (padded 6 vs) t) rs → Takes p t (vs ∷ rs)
+take-low p t vs rs h j taken = take-line p t vs rs (low-written Table vs h) (j (low-issued vs h)) taken
 
 take-end : (p : Progress) (t : List ℕ) → 4 ≤ p .stage → p .transitions ≤ p .transition → Takes p t []
 unfolding complete
@@ -90,18 +96,18 @@ module _ (r c l n : ℕ) (ns : List ℕ) where
     size : length t ≡ formLength
 
   constants-taken : (cs : List ℕ) (p : Progress) (t : List ℕ) (ls : List (List ℕ)) → Early p t → p .ids + length cs ≡ c → T (rising cs) → (p .stage ≡ 2 → T (rising (p .newest ∷ cs)))
-      → T (allOf (λ v. ltb v 1000000) cs) → ((q : Progress) (v : List ℕ) → Early q v → q .ids ≡ c → Takes q v ls) → Takes p t (map (λ v. 2 ∷ v ∷ []) cs ++ ls)
-  unfolding advance kindAt inRange padded
+      → T (allOf (λ v. leb v largest) cs) → ((q : Progress) (v : List ℕ) → Early q v → q .ids ≡ c → Takes q v ls) → Takes p t (map (λ v. 2 ∷ v ∷ []) cs ++ ls)
+  unfolding advance kindAt padded
   constants-taken [] p t ls s e a b d next = next p t s (omega arith)
   constants-taken (v ∷ cs) p t ls s e a b d next =
       let f : List ℕ = padded 6 (2 ∷ v ∷ []) in
       take-line p t (2 ∷ v ∷ []) (map (λ v. 2 ∷ v ∷ []) cs ++ ls)
-      (plain2 2 v (omega arith) (ltb→lt v 1000000 (and-l (ltb v 1000000) (allOf (λ v. ltb v 1000000) cs) d)))
-      (accepts p 2 f refl (s .from1) (s .to2) (lt-ltb (p .ids) (p .constants) (omega (arith, s .known .same2))) refl refl
+      (constant-written v (leb→le v largest (and-l (leb v largest) (allOf (λ v. leb v largest) cs) d)))
+      (accepts p 2 f refl (s .from1) (s .to2) (lt-ltb (p .ids) (p .constants) (omega (arith, s .known .same2))) refl (rw (T-true (leb v largest) (and-l (leb v largest) (allOf (λ v. leb v largest) cs) d))) refl
       (in-order (p .stage) 2 (p .newest) v (λ h. ltb→lt (p .newest) v (and-l (ltb (p .newest) v) (rising (v ∷ cs)) (b h)))))
       (constants-taken cs (further p f t) (placed p f t) ls
       (record { known = s .known; none = s .none; acts0 = s .acts0; from1 = omega arith; to2 = omega arith; size = length-put t (1 + p .ids) f ∙ s .size })
-      (omega arith) (rising-rest v cs a) (λ h. a) (and-r (ltb v 1000000) (allOf (λ v. ltb v 1000000) cs) d) next)
+      (omega arith) (rising-rest v cs a) (λ h. a) (and-r (leb v largest) (allOf (λ v. leb v largest) cs) d) next)
 
   -- Actions
 
@@ -118,15 +124,15 @@ module _ (r c l n : ℕ) (ns : List ℕ) where
   arities-taken : Small → (ms : List ℕ) (p : Progress) (t : List ℕ) (ls : List (List ℕ)) (i : ℕ) → Acting p t i → i + length ms ≡ length ns → T (allOf (λ m. leb m 3) ms)
       → ((j : ℕ) → getD ms j 0 ≡ getD ns (i + j) 0)
       → ((q : Progress) (v : List ℕ) → Acting q v (length ns) → Takes q v ls) → Takes p t (map (λ v. 3 ∷ v ∷ []) ms ++ ls)
-  unfolding advance kindAt inRange padded
+  unfolding advance kindAt padded
   arities-taken z [] p t ls i s e h g next = let d : i ≡ length ns = omega arith in next p t (subst (Acting p t) d s)
   arities-taken z (m ∷ ms) p t ls i s e h g next =
       let few : m ≤ 3 = leb→le m 3 (and-l (leb m 3) (allOf (λ m. leb m 3) ms) h) in
-      take-line p t (3 ∷ m ∷ []) (map (λ v. 3 ∷ v ∷ []) ms ++ ls)
-      (plain2 3 m (omega arith) (omega arith))
-      (accepts p 2 f refl (s .from1) (s .to3)
+      take-low p t (3 ∷ m ∷ []) (map (λ v. 3 ∷ v ∷ []) ms ++ ls)
+      (low2 3 m (omega arith) (omega arith))
+      (λ w. accepts p 2 f refl (s .from1) (s .to3)
       (rw (le-leb (p .constants) (p .ids) (omega (arith, s .known .same2, s .ids-all)), lt-ltb (p .acts) (p .actions) (omega (arith, s .known .same4, s .acted))))
-      refl (le-leb m 3 few) refl)
+      refl w (le-leb m 3 few) refl)
       (arities-taken z ms (further p f t) (placed p f t) ls (suc i)
       (record {
         known = s .known;
@@ -166,10 +172,10 @@ module _ (r c l n : ℕ) (ns : List ℕ) where
   -- lines of kind k at stage s: the lines 5 after line 4, and the lines 7 after a line 6
   module _ (z : Small) (k s : ℕ) (row : Progress → ℕ → ℕ) (is : kindOf k ≡ line conditionFields s s s always true false row) (behind : (p : Progress) (x : ℕ) → startingRows ≤ row p x)
       (low : k ≤ 99) (one : eqb k 1 ≡ false) (six : eqb k 6 ≡ false) where
-    condition-judged : (p : Progress) (g : Condition) → p .stage ≡ s → p .conds < 8 → T (fitsCondition (p .constants) (p .registers) (p .params) g) → judgeLine p 6 (conditionLine k g) ≡ 0
+    condition-judged : (p : Progress) (g : Condition) → allOf (λ v. leb v largest) (conditionLine k g) ≡ true → p .stage ≡ s → p .conds < 8 → T (fitsCondition (p .constants) (p .registers) (p .params) g) → judgeLine p 6 (conditionLine k g) ≡ 0
     unfolding kindAt
-    condition-judged p g e d h =
-        accepts p 6 (conditionLine k g) (rw is refl) (rw is (omega arith)) (rw is (omega arith)) (rw is refl) (rw is (lt-leb 8 (p .conds) d))
+    condition-judged p g w e d h =
+        accepts p 6 (conditionLine k g) (rw is refl) (rw is (omega arith)) (rw is (omega arith)) (rw is refl) (rw is (lt-leb 8 (p .conds) d)) w
         (condition-range p k g (ap (λ x. x .fields) is) h) (rw is refl)
 
     conditions-taken : (gs : List Condition) (p : Progress) (t : List ℕ) (ls : List (List ℕ)) (q tr : ℕ) → q ≤ 3 → Amid q tr p t → p .stage ≡ s → p .conds + length gs ≤ 8 → T (allOf (fitsCondition c r q) gs)
@@ -178,9 +184,9 @@ module _ (r c l n : ℕ) (ns : List ℕ) where
     conditions-taken [] p t ls q tr w a e d h next = next p t a e
     conditions-taken (g ∷ gs) p t ls q tr w a e d h next =
         let fits : T (fitsCondition c r q g) = and-l (fitsCondition c r q g) (allOf (fitsCondition c r q) gs) h in
-        take-line p t (conditionLine k g) (map (conditionLine k) gs ++ ls)
-        (condition-plain c r q (omega (arith, z .constants)) (omega (arith, z .registers)) (omega arith) k g low fits)
-        (condition-judged p g e (omega arith) (rw (a .known .same2, a .known .same1, a .params) fits))
+        take-low p t (conditionLine k g) (map (conditionLine k) gs ++ ls)
+        (condition-low c r q (omega (arith, z .constants)) (omega (arith, z .registers)) (omega arith) k g low fits)
+        (λ w. condition-judged p g w e (omega arith) (rw (a .known .same2, a .known .same1, a .params) fits))
         (conditions-taken gs (further p (conditionLine k g) t) (placed p (conditionLine k g) t) ls q tr w
         (record {
           known = rw one (a .known);
@@ -194,12 +200,12 @@ module _ (r c l n : ℕ) (ns : List ℕ) where
   start-taken : Small → (x : ℕ) (gs : List Condition) (p : Progress) (t : List ℕ) (ls : List (List ℕ)) → KnownBy p → Stored (length ns) t → Untouched p → p .stage ≡ 3 → p .acts ≡ length ns
       → T (inside l x) → length gs ≤ 8 → T (allOf (fitsCondition c r 0) gs)
       → ((q : Progress) (v : List ℕ) → Amid 0 0 q v → q .stage ≡ 4 → Takes q v ls) → Takes p t ((4 ∷ x ∷ []) ∷ (map (conditionLine 5) gs ++ ls))
-  unfolding advance kindAt inRange padded
+  unfolding advance kindAt padded
   start-taken z x gs p t ls k s o a b h m d next =
       let f : List ℕ = padded 6 (4 ∷ x ∷ []) in
-      take-line p t (4 ∷ x ∷ []) (map (conditionLine 5) gs ++ ls)
-      (plain2 4 x (omega arith) (omega (arith, inside→ l x h, z .locations)))
-      (accepts p 2 f refl (omega arith) (omega arith) (le-leb (p .actions) (p .acts) (omega (arith, k .same4))) refl (rw (k .same3) (T-true (inside l x) h)) refl)
+      take-low p t (4 ∷ x ∷ []) (map (conditionLine 5) gs ++ ls)
+      (low2 4 x (omega arith) (omega (arith, inside→ l x h, z .locations)))
+      (λ w. accepts p 2 f refl (omega arith) (omega arith) (le-leb (p .actions) (p .acts) (omega (arith, k .same4))) refl w (rw (k .same3) (T-true (inside l x) h)) refl)
       (conditions-taken z 5 4 (kindOf 5 .row) refl (λ p x. omega arith) (omega arith) refl refl gs (further p f t) (placed p f t) ls 0 0 (omega arith)
       (record { known = k; stored = stored-kept (length ns) t startRow f (λ j i. omega (arith, z .actions)) s; params = o .1; here = o .2 })
       refl (omega (arith, o .0)) d next)
@@ -215,9 +221,9 @@ module _ (r c l n : ℕ) (ns : List ℕ) where
       let f : List ℕ = padded 6 (assignmentLine x) in
       let regs : List ℕ = map (λ s. s .register) xs in
       let fits : T (fitsAssignment c r q x) = and-l (fitsAssignment c r q x) (allOf (fitsAssignment c r q) xs) h in
-      take-line p t (assignmentLine x) (map assignmentLine xs ++ ls)
-      (assignment-plain c r q (omega (arith, z .constants)) (omega (arith, z .registers)) (omega arith) x fits)
-      (accepts p 4 f refl d e refl refl (assignment-range p x (rw (a .known .same2, a .known .same1, a .params) fits))
+      take-low p t (assignmentLine x) (map assignmentLine xs ++ ls)
+      (assignment-low c r q (omega (arith, z .constants)) (omega (arith, z .registers)) (omega arith) x fits)
+      (λ y. accepts p 4 f refl d e refl refl y (assignment-range p x (rw (a .known .same2, a .known .same1, a .params) fits))
       (in-order (p .stage) 6 (p .newest) (x .register) (λ i. ltb→lt (p .newest) (x .register) (and-l (ltb (p .newest) (x .register)) (rising (x .register ∷ regs)) (o i)))))
       (assigns-taken z xs (further p f t) (placed p f t) ls q tr w
       (record {
@@ -240,7 +246,7 @@ module _ (a : Automaton) (lim : T (limited a)) where
   transitions-taken : (ts : List Transition) (p : Progress) (t : List ℕ) → KnownBy (a .registers) (constantCount a) (a .locations) (length (a .transitions)) (a .arities) p
       → Stored (a .registers) (constantCount a) (a .locations) (length (a .transitions)) (a .arities) (length (a .arities)) t → 4 ≤ p .stage → p .stage ≤ 6
       → p .transition + length ts ≡ length (a .transitions) → T (allOf (fitsTransition a) ts) → T (allOf (λ x. leb (length (x .guard)) 8) ts) → Takes p t (transitionsLines ts)
-  unfolding advance kindAt inRange padded
+  unfolding advance kindAt padded
   transitions-taken [] p t k s d e g h few = take-end p t d (omega (arith, k .same5))
   transitions-taken (x ∷ xs) p t k s d e g h few =
       let r : ℕ = a .registers in
@@ -258,9 +264,9 @@ module _ (a : Automaton) (lim : T (limited a)) where
       let rise : T (rising (map (λ s. s .register) (x .assigns))) = search (and-l, and-r) in
       let w = inside→ (length (a .arities)) (x .action) action in
       let row : actionRows + pred (x .action) ≡ arityRow (x .action) = omega arith in
-      take-line p t (6 ∷ x .from ∷ x .action ∷ x .to ∷ []) (map (conditionLine 7) (x .guard) ++ (map assignmentLine (x .assigns) ++ transitionsLines xs))
-      (plain4 6 (x .from) (x .action) (x .to) (omega arith) (omega (arith, inside→ (a .locations) (x .from) from, counts .locations)) (omega (arith, counts .actions)) (omega (arith, inside→ (a .locations) (x .to) to, counts .locations)))
-      (accepts p 4 f refl d e (lt-ltb (p .transition) (p .transitions) (omega (arith, k .same5))) refl
+      take-low p t (6 ∷ x .from ∷ x .action ∷ x .to ∷ []) (map (conditionLine 7) (x .guard) ++ (map assignmentLine (x .assigns) ++ transitionsLines xs))
+      (low4 6 (x .from) (x .action) (x .to) (omega arith) (omega (arith, inside→ (a .locations) (x .from) from, counts .locations)) (omega (arith, counts .actions)) (omega (arith, inside→ (a .locations) (x .to) to, counts .locations)))
+      (λ y. accepts p 4 f refl d e (lt-ltb (p .transition) (p .transitions) (omega (arith, k .same5))) refl y
       (rw (k .same3, k .same4, T-true (inside (a .locations) (x .from)) from, T-true (inside (length (a .arities)) (x .action)) action, T-true (inside (a .locations) (x .to)) to)) refl)
       (conditions-taken r c l n ns small 7 5 (kindOf 7 .row) refl (λ p x. omega arith) (omega arith) refl refl (x .guard) (further p f t) (placed p f t) (map assignmentLine (x .assigns) ++ transitionsLines xs) (arity a x) (p .transition + 1) (counts .parameters x)
       (record {
@@ -275,9 +281,9 @@ module _ (a : Automaton) (lim : T (limited a)) where
       (λ p″ v′ i′ y y′. transitions-taken xs p″ v′ (i′ .known) (i′ .stored) (omega arith) y′ (omega (arith, i′ .here))
       (and-r (fitsTransition a x) (allOf (fitsTransition a) xs) h) (and-r (leb (length (x .guard)) 8) (allOf (λ x. leb (length (x .guard)) 8) xs) few))))
 
-  -- the lines of a well-formed automaton within the limits, with constants of six digits
-  pub table-taken : T (wellFormed a) → T (sixDigits a) → Takes atStart blankForm (tableLines a)
-  unfolding advance kindAt inRange padded
+  -- the lines of a well-formed automaton within the limits, with constants that are identifiers
+  pub table-taken : T (wellFormed a) → T (issued a) → Takes atStart blankForm (tableLines a)
+  unfolding advance kindAt padded
   table-taken wf six =
       let r : ℕ = a .registers in
       let c : ℕ = constantCount a in
@@ -295,10 +301,10 @@ module _ (a : Automaton) (lim : T (limited a)) where
       let guards : T (allOf (λ x. leb (length (x .guard)) 8) (a .transitions)) = search (and-l, and-r) depth 9 in
       let four : List (List ℕ) = (4 ∷ a .start ∷ []) ∷ (map (conditionLine 5) (a .starting) ++ transitionsLines (a .transitions)) in
       let three : List (List ℕ) = map (λ v. 3 ∷ v ∷ []) (a .arities) ++ four in
-      take-line atStart blankForm (headLine a) (map (λ v. 2 ∷ v ∷ []) (a .constants) ++ three)
-      (plain6 1 (a .registers) (length (a .constants)) (a .locations) (length (a .arities)) (length (a .transitions))
+      take-low atStart blankForm (headLine a) (map (λ v. 2 ∷ v ∷ []) (a .constants) ++ three)
+      (low6 1 (a .registers) (length (a .constants)) (a .locations) (length (a .arities)) (length (a .transitions))
       (omega arith) (omega (arith, counts .registers)) (omega (arith, counts .constants)) (omega (arith, counts .locations)) (omega (arith, counts .actions)) (omega (arith, counts .transitions)))
-      (accepts atStart 6 f refl (omega arith) (omega arith) refl refl
+      (λ y. accepts atStart 6 f refl (omega arith) (omega arith) refl refl y
       (rw (le-leb (a .registers) 5 (counts .registers), le-leb (length (a .constants)) 2 (counts .constants), T-true (inside 16 (a .locations)) locations, T-true (inside 16 (length (a .arities))) actions, le-leb (length (a .transitions)) 64 (counts .transitions)))
       refl)
       (constants-taken r c l n ns (a .constants) (further atStart f blankForm) (placed atStart f blankForm) three

@@ -26,7 +26,7 @@ use Rattle.conditions.proofs.StartsExact.{startable-exact}
 use Rattle.opening.specs.Opening.{openTable}
 use Rattle.opening.proofs.Opened.{opened, opened-read, opened-readable}
 use Rattle.writing.specs.Said.{TableFile, TargetFile, QuestionFile}
-use Rattle.writing.proofs.Canonical.{table-canonical, table-digits, target-canonical}
+use Rattle.writing.proofs.Canonical.{table-canonical, table-issued, target-canonical}
 use Rattle.writing.proofs.Written.{table-written, aim-written, target-written}
 use Rattle.writing.proofs.WrittenQuestions.{question-canonical, question-written}
 
@@ -36,11 +36,11 @@ pub table-says : (s t : List ℕ) → openTable s ≡ accepted t → TableFile s
 table-says s t e =
     let read : readTable s ≡ accepted t = opened-read s t e in
     let (fits, small) = table-well-formed s t read in
-    record { written = table-canonical s t read; fits = fits; small = small; digits = table-digits s t read; start = opened-readable s t e .1 }
+    record { written = table-canonical s t read; fits = fits; small = small; issued = table-issued s t read; start = opened-readable s t e .1 }
 
 pub says-table : (s : List ℕ) (a : Automaton) → TableFile s a → (t : List ℕ) × (openTable s ≡ accepted t) × (automatonOf t ≡ a)
 says-table s a f =
-    let (t, read, same) = table-written a (f .fits) (f .small) (f .digits) in
+    let (t, read, same) = table-written a (f .fits) (f .small) (f .issued) in
     let begins : T (startable (automatonOf t)) = subst⁻¹ (λ x. T (startable x)) same (startable-exact a (f .fits) .1 (f .start)) in
     (t, opened s t (ap readTable (f .written) ∙ read) (T-true (startable (automatonOf t)) begins), same)
 

@@ -1,32 +1,56 @@
--- The sample's bytes say the automata, targets and questions of the starred examples.
+-- The sample's bytes say the automata, targets and questions of the starred examples, and the sample of the two largest identifiers.
 -- Assumes nothing.
 use mathlib.Core.List.{List, [], _∷_}
 use mathlib.Core.Path.{refl}
 use native.Mathlib.Omega.{arith}
 use Rattle.columns.specs.Columns.{columnOf}
+use Rattle.columns.specs.Widths.{width}
 use Rattle.automata.specs.Questions.{Row, row}
-use Rattle.automata.specs.Examples.{sample, loose, delivered, deliveredByOne}
+use Rattle.automata.specs.Automaton.{Automaton}
+use Rattle.automata.specs.Automaton.Term.{register, constant}
+use Rattle.automata.specs.Examples.{_equals_, sample, loose, delivered, deliveredByOne}
 use Rattle.writing.specs.Said.{TableFile, TargetFile, QuestionFile}
-use Rattle.writing.specs.Sample.{sampleBytes, looseBytes, deliveredBytes, deliveredByOneBytes, alwaysBytes, inevitableBytes}
+use Rattle.writing.specs.Sample.{sampleBytes, looseBytes, largestBytes, deliveredBytes, deliveredByOneBytes, alwaysBytes, inevitableBytes}
 
 pub sample-says : TableFile sampleBytes sample
-unfolding columnOf
-sample-says = record { written = refl; fits = tt; small = tt; digits = tt; start = (0 ∷ 0 ∷ [], tt) }
+unfolding columnOf width
+sample-says = record { written = refl; fits = tt; small = tt; issued = tt; start = (0 ∷ 0 ∷ [], tt) }
 
 pub loose-says : TableFile looseBytes loose
-unfolding columnOf
-loose-says = record { written = refl; fits = tt; small = tt; digits = tt; start = (0 ∷ 0 ∷ [], tt) }
+unfolding columnOf width
+loose-says = record { written = refl; fits = tt; small = tt; issued = tt; start = (0 ∷ 0 ∷ [], tt) }
+
+-- the sample of the two largest identifiers
+abbrev pub largestSample : Automaton
+largestSample =
+    record {
+      registers = 2;
+      constants = 4294967294 ∷ 4294967295 ∷ [];
+      locations = 3;
+      arities = 1 ∷ 1 ∷ [];
+      start = 1;
+      starting = register 1 equals constant 1 ∷ register 2 equals constant 2 ∷ [];
+      transitions = sample .transitions;
+    }
+
+pub largest-says : TableFile largestBytes largestSample
+unfolding columnOf width
+largest-says = record { written = refl; fits = tt; small = tt; issued = tt; start = (4294967294 ∷ 4294967295 ∷ [], tt) }
+
+pub largest-delivered-says : TargetFile largestSample deliveredBytes delivered
+unfolding columnOf width
+largest-delivered-says = record { written = refl; fits = tt; few = omega arith }
 
 pub delivered-says : TargetFile sample deliveredBytes delivered
-unfolding columnOf
+unfolding columnOf width
 delivered-says = record { written = refl; fits = tt; few = omega arith }
 
 pub delivered-by-one-says : TargetFile sample deliveredByOneBytes deliveredByOne
-unfolding columnOf
+unfolding columnOf width
 delivered-by-one-says = record { written = refl; fits = tt; few = omega arith }
 
 pub loose-by-one-says : TargetFile loose deliveredByOneBytes deliveredByOne
-unfolding columnOf
+unfolding columnOf width
 loose-by-one-says = record { written = refl; fits = tt; few = omega arith }
 
 -- the questions' rows
@@ -37,9 +61,13 @@ abbrev pub inevitableRows : List Row
 inevitableRows = row 1 3 0 ∷ row 14 1 0 ∷ []
 
 pub always-says : QuestionFile sample alwaysBytes alwaysRows
-unfolding columnOf
+unfolding columnOf width
 always-says = record { written = refl; fits = tt }
 
+pub largest-always-says : QuestionFile largestSample alwaysBytes alwaysRows
+unfolding columnOf width
+largest-always-says = record { written = refl; fits = tt }
+
 pub inevitable-says : QuestionFile sample inevitableBytes inevitableRows
-unfolding columnOf
+unfolding columnOf width
 inevitable-says = record { written = refl; fits = tt }

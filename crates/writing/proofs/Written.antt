@@ -2,7 +2,8 @@
 -- Assumes nothing.
 use Prim.Native.Nat.{ℕ, _*_, _≤_}
 use mathlib.Core.List.{List, [], _∷_, map}
-use mathlib.Core.Path.{_≡_, sym, ap}
+use mathlib.Core.Option.{some}
+use mathlib.Core.Path.{_≡_, refl, sym, ap}
 use native.Mathlib.Omega.{arith}
 use lib.Dec.{T}
 use lib.Ieee.Fits.{and-l, and-r}
@@ -20,20 +21,29 @@ use Rattle.reader.specs.Table.{tableRules, readForm, readTable, readTarget}
 use Rattle.reader.proofs.Shape.{Legal}
 use Rattle.reader.proofs.LegalForms.{target-legal}
 use Rattle.forms.proofs.Forms.{constant-count}
-use Rattle.columns.specs.Columns.{columns, fileBytes}
-use Rattle.writing.specs.Lines.{conditionLine, tableLines, targetLines, tableBytes, targetBytes, sixDigits}
-use Rattle.columns.proofs.Columns.{columns-length}
+use Rattle.columns.specs.declared.Sheet.the-variants.{Table}
+use Rattle.columns.specs.Widths.{largest}
+use Rattle.columns.specs.Columns.{lineColumns, fileBytes}
+use Rattle.fields.specs.Format.{fields}
+use Rattle.writing.specs.Lines.{conditionLine, tableLines, targetLines, tableBytes, targetBytes, issued}
+use Rattle.columns.proofs.Columns.{plain-length, table-most}
+use Rattle.writing.proofs.FileBytes.{fields-columns}
+use Rattle.writing.proofs.Accepting.{constant-written}
 use Rattle.writing.proofs.Reading.{taken-short, file-read}
 use Rattle.writing.proofs.Canonical.{begun, lines-table, lines-target}
 use Rattle.writing.proofs.Injective.{table-injective, target-injective}
 use Rattle.writing.proofs.LinesTaken.{table-taken, target-taken}
 
--- that the file is not overlong needs no hypothesis: it has at most as many lines as a form has rows, of at most 37 bytes
-pub table-written : (a : Automaton) → T (wellFormed a) → T (limited a) → T (sixDigits a) → (t : List ℕ) × (readTable (tableBytes a) ≡ accepted t) × (automatonOf t ≡ a)
+-- an identifier is read back from the line 2 that names it
+pub constant-read : (v : ℕ) → v ≤ largest → fields Table 6 (lineColumns Table (2 ∷ v ∷ [])) ≡ some (2 ∷ v ∷ [])
+constant-read v h = let w = constant-written v h in fields-columns Table 6 (2 ∷ v ∷ []) (w .few) (w .fits)
+
+-- that the file is not overlong needs no hypothesis: it has at most as many lines as a form has rows, of at most 43 bytes
+pub table-written : (a : Automaton) → T (wellFormed a) → T (limited a) → T (issued a) → (t : List ℕ) × (readTable (tableBytes a) ≡ accepted t) × (automatonOf t ≡ a)
 table-written a wf lim six =
     let (u, taken) = table-taken a lim wf six in
     let (lines, few) = lines-table (tableLines a) u taken in
-    let short : length (tableBytes a) ≤ 40000 = omega (arith, taken-short tableRules (tableLines a) (begun atStart) u taken) in (
+    let short : length (tableBytes a) ≤ 40000 = omega (arith, taken-short tableRules 43 (λ vs h. omega (arith, table-most vs)) (tableLines a) (begun atStart) u taken) in (
       u .form,
       ap (λ o. _then_ o (λ x. accepted (x .form))) (file-read tableRules 1 u 40000 (begun atStart) (tableLines a) short taken),
       sym (table-injective a (automatonOf (u .form)) lines),
@@ -41,15 +51,15 @@ table-written a wf lim six =
 
 -- Targets
 
-conditions-length : (gs : List Condition) → length (fileBytes (map (conditionLine 5) gs)) ≡ 37 * length gs
+conditions-length : (gs : List Condition) → length (fileBytes Table (map (conditionLine 5) gs)) ≡ 37 * length gs
 conditions-length [] = omega arith
 conditions-length (g ∷ gs) =
-    omega (arith, conditions-length gs, length-append (columns 6 (conditionLine 5 g)) (10 ∷ fileBytes (map (conditionLine 5) gs)), columns-length 6 (conditionLine 5 g))
+    omega (arith, conditions-length gs, length-append (lineColumns Table (conditionLine 5 g)) (10 ∷ fileBytes Table (map (conditionLine 5) gs)), plain-length Table (conditionLine 5 g) (λ i. refl))
 
 target-short : (g : Target) → length (g .conditions) ≤ 8 → length (targetBytes g) ≤ 309
 target-short g h =
-    let rest : List ℕ = fileBytes (map (conditionLine 5) (g .conditions)) in
-    omega (arith, conditions-length (g .conditions), length-append (columns 6 (4 ∷ g .location ∷ [])) (10 ∷ rest), columns-length 6 (4 ∷ g .location ∷ []))
+    let rest : List ℕ = fileBytes Table (map (conditionLine 5) (g .conditions)) in
+    omega (arith, conditions-length (g .conditions), length-append (lineColumns Table (4 ∷ g .location ∷ [])) (10 ∷ rest), plain-length Table (4 ∷ g .location ∷ []) (λ i. refl))
 
 -- of a table with these counts
 pub aim-written : (r c l : ℕ) (g : Target) → r ≤ 5 → c ≤ 2 → l ≤ 16 → T (inside l (g .location)) → T (allOf (fitsCondition c r 0) (g .conditions)) → length (g .conditions) ≤ 8

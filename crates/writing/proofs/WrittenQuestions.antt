@@ -10,7 +10,6 @@ use lib.Ieee.Fits.{and-l, and-r}
 use lib.ListN.{length, length-replicate, length-append}
 use Rattle.refusals.specs.Judged.Judged.{accepted}
 use Rattle.lists.specs.Arrays.{padded}
-use Rattle.fields.proofs.Digits.{low-zeros, low-cons}
 use Rattle.automata.specs.Automaton.{Automaton}
 use Rattle.automata.specs.Questions.{Row, row, Use, kindOf}
 use Rattle.automata.specs.Questions.Use.{locationNumber, registerNumber, constantNumber, rowNumber, unused}
@@ -22,17 +21,19 @@ use Rattle.questions.specs.declared.Counts.{Counts}
 use Rattle.questions.specs.QuestionRules.{judgeRow, rowIn, judgeFields}
 use Rattle.questions.proofs.Fits.{three-fields, countsOf, row-judged}
 use Rattle.questions.specs.Question.{Rows, nothingRead, questionRules, counts, readQuestion}
-use Rattle.columns.specs.Columns.{columns}
+use Rattle.columns.specs.declared.Sheet.the-variants.{Plain}
+use Rattle.columns.specs.Columns.{lineColumns}
 use Rattle.writing.specs.Lines.{questionLines, questionBytes}
-use Rattle.columns.proofs.Columns.{columns-length}
-use Rattle.writing.proofs.Reading.{Plain, Taken, file-written, file-read}
+use Rattle.columns.proofs.Columns.{plain-length}
+use Rattle.writing.proofs.Accepting.{low-written, low3}
+use Rattle.writing.proofs.Reading.{Written, Taken, file-written, file-read}
 
 -- the bytes of a question
 question-length : (rs : List Row) → length (questionBytes rs) ≡ 19 * length rs
 question-length [] = omega arith
 question-length (r ∷ rs) =
     let vs : List ℕ = r .kind ∷ r .first ∷ r .second ∷ [] in
-    omega (arith, question-length rs, length-append (columns 6 vs) (10 ∷ questionBytes rs), columns-length 6 vs)
+    omega (arith, question-length rs, length-append (lineColumns Plain vs) (10 ∷ questionBytes rs), plain-length Plain vs (λ i. refl))
 
 -- What is read is written
 
@@ -88,17 +89,13 @@ module _ (a : Automaton) where
     use-low n unused x h t = omega (arith, eqb→eq x 0 t)
 
     -- a row that fits is a line that is taken
-    row-taken : (n : ℕ) (r : Row) → n ≤ 32 → T (fitsRow a n r) → Plain (r .kind ∷ r .first ∷ r .second ∷ []) × (judgeRow (countsOf a) n r ≡ 0)
+    row-taken : (n : ℕ) (r : Row) → n ≤ 32 → T (fitsRow a n r) → Written Plain (r .kind ∷ r .first ∷ r .second ∷ []) × (judgeRow (countsOf a) n r ≡ 0)
     row-taken n r h t =
         let k : T (inside 14 (r .kind)) = search (and-l, and-r) in
         let x : T (fitsUse a n (kindOf (r .kind) .first) (r .first)) = search (and-l, and-r) in
         let y : T (fitsUse a n (kindOf (r .kind) .second) (r .second)) = search (and-l, and-r) in (
-          record {
-            few = omega arith;
-            low = low-cons (r .kind) (r .first ∷ r .second ∷ []) (omega (arith, inside→ 14 (r .kind) k))
-                (low-cons (r .first) (r .second ∷ []) (use-low n (kindOf (r .kind) .first) (r .first) h x)
-                (low-cons (r .second) [] (use-low n (kindOf (r .kind) .second) (r .second) h y) (low-zeros 0)));
-          },
+          low-written Plain (r .kind ∷ r .first ∷ r .second ∷ [])
+              (low3 (r .kind) (r .first) (r .second) (omega (arith, inside→ 14 (r .kind) k)) (use-low n (kindOf (r .kind) .first) (r .first) h x) (use-low n (kindOf (r .kind) .second) (r .second) h y)),
           row-judged a n r t,
         )
 

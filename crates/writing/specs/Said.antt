@@ -9,14 +9,14 @@ use Rattle.automata.specs.Automaton.{Automaton}
 use Rattle.automata.specs.Runs.{Target, permitted}
 use Rattle.automata.specs.Questions.{Row}
 use Rattle.automata.specs.WellFormed.{wellFormed, limited, fitsTarget, fitsQuestion}
-use Rattle.writing.specs.Lines.{tableBytes, targetBytes, questionBytes, sixDigits}
+use Rattle.writing.specs.Lines.{tableBytes, targetBytes, questionBytes, issued}
 
 -- the bytes say the table a: they are what is written for it, its numbers are in range and within document 01's limits, and it has a permitted start
 pub record TableFile (s : List ℕ) (a : Automaton) : Type 0 where
   pub written : s ≡ tableBytes a
   pub fits : T (wellFormed a)
   pub small : T (limited a)
-  pub digits : T (sixDigits a)
+  pub issued : T (issued a)
   pub start : (v : List ℕ) × T (permitted a v)
 
 -- the bytes say the target g of the table a

@@ -56,6 +56,72 @@ fn cases() -> Vec<Case> {
             &[5, 1, 4, 1, 3, 2],
         ])
     };
+    // Constants as large as can be.
+    let largest = || {
+        lines(&[
+            &[1, 2, 2, 4, 3, 3],
+            &[2, 4_294_967_294],
+            &[2, 4_294_967_295],
+            &[3, 1],
+            &[3, 2],
+            &[3, 3],
+            &[4, 1],
+            &[5, 1, 1, 1, 3, 2],
+            &[5, 1, 2, 2, 3, 2],
+            &[5, 1, 2, 2, 3, 1],
+            // Fresh beside a register, and the other register free.
+            &[6, 1, 1, 2],
+            &[7, 2, 1, 2, 1, 2],
+            &[7, 2, 1, 2, 3, 1],
+            &[7, 2, 1, 2, 3, 2],
+            &[8, 2, 2, 1],
+            // A constant as a parameter, and a stored one.
+            &[6, 2, 2, 3],
+            &[7, 2, 1, 1, 3, 2],
+            &[7, 2, 2, 1, 1, 2],
+            &[8, 1, 2, 1],
+            &[8, 2, 3, 1],
+            // Every number of the line but one has ten digits.
+            &[6, 3, 3, 4],
+            &[7, 2, 1, 1, 1, 1],
+            &[7, 2, 2, 1, 1, 2],
+            &[7, 2, 3, 2, 1, 1],
+            &[7, 2, 3, 2, 1, 2],
+            &[8, 1, 1, 2],
+            &[8, 2, 1, 1],
+        ])
+    };
+    // The longest line of a run: five registers and three parameters of ten digits.
+    let longest = || {
+        lines(&[
+            &[1, 5, 2, 2, 1, 1],
+            &[2, 4_294_967_294],
+            &[2, 4_294_967_295],
+            &[3, 3],
+            &[4, 1],
+            &[5, 1, 1, 1, 3, 1],
+            &[5, 1, 2, 1, 3, 2],
+            &[5, 1, 3, 1, 3, 1],
+            &[5, 1, 4, 1, 3, 2],
+            &[5, 1, 5, 1, 3, 1],
+            &[6, 1, 1, 2],
+            &[7, 2, 1, 1, 3, 2],
+            &[7, 2, 2, 1, 3, 1],
+            &[7, 2, 3, 1, 3, 2],
+            &[8, 1, 2, 1],
+            &[8, 2, 2, 2],
+            &[8, 3, 2, 3],
+            &[8, 4, 1, 4],
+            &[8, 5, 1, 5],
+        ])
+    };
+    // The sample with another line 2.
+    let nobody = |line: &str| {
+        let mut table = sample_table();
+        let at = fields(&[1, 2, 1, 3, 2, 2]).len();
+        table.splice(at..at + 19, line.bytes());
+        File(table)
+    };
     let text = |t: &str| File(t.as_bytes().to_vec());
     let separate = || text("AG!(L3&r1=r2)");
     let all_but = lines(&[&[2, 1, 5], &[4, 1, 0], &[3, 4, 2], &[5, 2, 3], &[4, 4, 0]]);
@@ -112,6 +178,21 @@ fn cases() -> Vec<Case> {
         AskText(sample(), Missing),
         AskText(Folder, separate()),
         AskText(sample(), Folder),
+        // 37 to 39: constants as large as can be, held, given back and beside the smallest moves; never; the longest line.
+        Reach(largest(), lines(&[&[4, 4]])),
+        Reach(largest(), lines(&[&[4, 4], &[5, 1, 1, 1, 1, 2]])),
+        Reach(longest(), lines(&[&[4, 2]])),
+        // 40 to 43: the sample with the largest identifier for nobody, with the next number, with one that is 0 in 32
+        // bits, and with line 2 as it was before document 02.
+        Reach(nobody("     2  4294967295\n"), third()),
+        Reach(nobody("     2  4294967296\n"), third()),
+        Reach(nobody("     2  8589934592\n"), third()),
+        Reach(nobody("     2     0\n"), third()),
+        // 44, 45: a no with such constants, and the longest line of an answer; 46, 47: the same as text.
+        Ask(largest(), lines(&[&[3, 1, 2], &[13, 1, 0]])),
+        Ask(longest(), lines(&[&[1, 1, 0], &[13, 1, 0]])),
+        AskText(largest(), text("AGr1=c2")),
+        AskText(longest(), text("AGL1")),
     ]
 }
 

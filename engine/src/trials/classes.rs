@@ -381,7 +381,8 @@ fn sweep(registers: u32, list: &[u32]) -> (usize, u64) {
 
 /// Each number of registers and constants; the constants small, apart, and as large as can be.
 fn sweeps() -> Vec<(u32, Vec<u32>)> {
-    let lists: [&[u32]; 7] = [&[], &[0], &[5], &[u32::MAX], &[0, 1], &[3, 999_999], &[2, u32::MAX]];
+    let largest = [u32::MAX - 1, u32::MAX];
+    let lists: [&[u32]; 7] = [&[], &[0], &[5], &[u32::MAX], &[0, 1], &[2, u32::MAX], &largest];
     (0..=5)
         .flat_map(|r| lists.iter().map(move |l| (r, l.to_vec())))
         .collect()

@@ -443,6 +443,24 @@ fn examples() -> Vec<Files> {
         let question = (inevitable().0, text);
         add(good(sample.clone(), equal.clone(), question), &[0], yes, &refused);
     }
+    // Constants as large as can be; a number too large is 5, before 4, and is not taken for what 32 bits leave of it; the
+    // old width of line 2 is 2.
+    let constants = |lines: &str| {
+        let mut text = line(&[1, 1, 2, 1, 1, 0]) + lines + &line(&[3, 0]) + &line(&[4, 1]);
+        text += &line(&[5, 1, 1, 1, 3, 2]);
+        text.into_bytes()
+    };
+    for (lines, refused) in [
+        ("     2  4294967294\n     2  4294967295\n", None),
+        ("     2  4294967295\n     2  4294967296\n", Some([2, 5, 1, 3])),
+        ("     2           5\n     2  4294967303\n", Some([2, 5, 1, 3])),
+        ("     2999999999999\n     2           7\n", Some([2, 5, 1, 2])),
+        ("     2  4294967295\n     2  4294967294\n", Some([2, 4, 1, 3])),
+        ("     2     0\n     2     1\n", Some([2, 2, 1, 2])),
+    ] {
+        let (reached, asked) = refused.as_ref().map_or((pass, yes), |r| (&r[..], &r[..]));
+        add(good(constants(lines), target(0), rows(1)), reached, asked, asked);
+    }
     found
 }
 

@@ -7,7 +7,7 @@
 //! that takes start and steps: a list that is too short for a start has zeros behind it, and numbers behind the last
 //! whole step are left out. A reply is four numbers: 1 good; 0 and the first bad moment; or 2 and those of the refusal.
 
-use super::{digits, fresh_data, header, random_for, report, sample_table};
+use super::{concat_lines, digits, fresh_data, header, random_for, report, sample_table};
 use crate::generate::{case, Shape};
 use crate::mutate::mutate;
 use crate::print::fields;
@@ -115,6 +115,44 @@ fn sample_cases() -> Vec<Case> {
     found
 }
 
+/// A table whose constants are the two largest identifiers: the register goes from the first to the second and to others.
+fn largest_cases() -> Vec<Case> {
+    let (first, second) = (u32::MAX - 1, u32::MAX);
+    let table = concat_lines(&[
+        &[1, 1, 2, 2, 1, 2],
+        &[2, first as usize],
+        &[2, second as usize],
+        &[3, 1],
+        &[4, 1],
+        &[5, 1, 1, 1, 3, 1],
+        &[6, 1, 1, 2],
+        &[7, 2, 1, 1, 3, 2],
+        &[8, 1, 2, 1],
+        &[6, 2, 1, 2],
+        &[7, 2, 1, 2, 3, 1],
+        &[7, 2, 1, 2, 3, 2],
+        &[8, 1, 2, 1],
+    ]);
+    let run = |start: u32, steps: &[[u32; 3]]| {
+        let mut list = vec![start, 0, 0, 0, 0];
+        for &[arc, parameter, register] in steps {
+            list.extend([arc, parameter, 0, 0, register, 0, 0, 0, 0]);
+        }
+        plain(table.clone(), list)
+    };
+    let away = first - 1;
+    vec![
+        // Good: to the second constant, and on to the identifiers beside the constants.
+        run(first, &[[1, second, second], [2, away, away], [2, 0, 0]]),
+        // Bad: the other constant at the start, the wrong one in a step, one where none may be, one of them set.
+        run(second, &[]),
+        run(first, &[[1, first, first]]),
+        run(first, &[[1, second, second], [2, second, second]]),
+        run(first, &[[1, second, second], [2, away, second]]),
+        run(first, &[[1, second, first]]),
+    ]
+}
+
 /// Random tables with a walk or the shortest run, some with a wrong number.
 fn random_cases(seed: u64) -> Vec<Case> {
     let mut found = Vec::new();
@@ -181,7 +219,7 @@ fn refused_cases(seed: u64) -> Vec<Case> {
 pub fn write(folder: &Path, seed: u64) -> io::Result<()> {
     let data = fresh_data(folder)?;
     let (mut bytes, mut text) = (Vec::new(), String::new());
-    let cases = [sample_cases(), random_cases(seed), refused_cases(seed)];
+    let cases = [sample_cases(), random_cases(seed), refused_cases(seed), largest_cases()];
     for (i, c) in cases.iter().flatten().enumerate() {
         let mut table = c.table.clone();
         table.resize(c.length, 10);

@@ -7,7 +7,7 @@ use Rattle.questions.proofs.judge_line.Tie as tie
 
 returns : tie.Need-returns
 unfolding judgeFields
-returns c = simp (c .before .before .before .if1 .taken, eq-eqb _ _ (c .before .if2 .taken)) (c .judge-row .ensures)
+returns c = simp (c .before .before .before .if1 .taken, eq-eqb _ _ (c .before .if2 .taken)) (c .judge-numbers .ensures)
 
 returns-2 : tie.Need-returns-2
 unfolding judgeFields

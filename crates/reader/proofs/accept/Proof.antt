@@ -29,6 +29,7 @@ accept-spec =
     (λ c κs. let h : Fits w32 (getD (c .before .before .args .t2) 2 0) = search needs in omega arith)
     (λ c. search needs)
     (λ c. search needs)
+    (λ c. search needs)
     (λ c κs. search needs)
     put-row-requires
     (λ c κs. search needs)

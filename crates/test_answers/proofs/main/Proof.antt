@@ -1,4 +1,4 @@
--- `test_answers::main` is safe and ends: 36 cases.
+-- `test_answers::main` is safe and ends: 47 cases.
 -- Assumes nothing.
 use Prim.Native.Nat.{_≤_, _-_}
 use borrow.Author.Needs.{needs}
@@ -6,10 +6,10 @@ use Rattle.test_answers.proofs.main.Statement.{statement}
 use Rattle.test_answers.proofs.main.Tie as tie
 
 abbrev Inv-loop : tie.InvT-loop
-Inv-loop i₀ i = i ≤ 37
+Inv-loop i₀ i = i ≤ 48
 
 abbrev μ-loop : tie.MeasureT-loop
-μ-loop i₀ i = 37 - i
+μ-loop i₀ i = 48 - i
 
 pub main-spec : {M : Type 1} → statement M
 main-spec =

@@ -14,10 +14,10 @@ room : (n b : ℕ) → n ≤ length (replicate {A = ℕ} n b)
 room n b = omega (arith, size n b)
 
 slice-aggregate-print-reaching-over-3 : tie.Need-slice-aggregate-print-reaching-over-3
-slice-aggregate-print-reaching-over-3 c = sym (size 722620 32)
+slice-aggregate-print-reaching-over-3 c = sym (size 1240300 32)
 
 print-reaching-over-requires : tie.Need-print-reaching-over-requires
-print-reaching-over-requires c κs = (search needs, search needs, room 722620 32)
+print-reaching-over-requires c κs = (search needs, search needs, room 1240300 32)
 
 pub print-reaching-spec : {M : Type 1} → statement M
 print-reaching-spec =

@@ -3,6 +3,7 @@ use mathlib.Core.Path.{subst}
 use lib.Dec.{T}
 use lib.ListN.{replicate}
 use Rattle.claims.specs.Files.{ReachBuffers, reachBuffers, searchRoom}
+use Rattle.printout.specs.Document.{reachBytes}
 use Rattle.printout.specs.Text.{Put}
 use Rattle.printout.proofs.PrintoutMeaning.{moments-few, found-lines, reach-printout}
 use borrow.Author.Needs.{needs}
@@ -28,7 +29,7 @@ returns c =
     let k = c .before .before .before .before .before .before .before .before .before .before .reach .ensures in
     let w = c .before .before .put-answer in
     record {
-      put = subst (λ ls. Put ls 0 (w .result) (a .text .now) (w .last .0)) (found-lines (a .table .now) (a .target .now) buffers room _ _ (k .0) (k .6)) (w .ensures .0);
+      put = subst (λ ls. Put (reachBytes ls) 0 (w .result) (a .text .now) (w .last .0)) (found-lines (a .table .now) (a .target .now) buffers room _ _ (k .0) (k .6)) (w .ensures .0);
       counts = w .ensures .1;
       means = reach-printout (a .table .now) (a .target .now);
     }
