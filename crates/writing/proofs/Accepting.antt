@@ -109,13 +109,13 @@ pub low-issued : (vs : List ℕ) → Low vs → allOf (λ v. leb v largest) (pad
 low-issued vs l = all-low 6 vs (l .each)
 
 -- a line 2
-pub constant-written : (v : ℕ) → v ≤ largest → Written Table (2 ∷ v ∷ [])
+pub constant-written : (v : ℕ) → v < 10 ^ 12 → Written Table (2 ∷ v ∷ [])
 unfolding width
 constant-written v h = record { few = omega arith; fits = fits }
   where
     fits : (i : ℕ) → getD (2 ∷ v ∷ []) i 0 < 10 ^ cond (eqb i 1) 12 6
     fits zero = omega arith
-    fits (suc zero) = omega arith
+    fits (suc zero) = h
     fits (suc (suc i)) = one-le-pow (cond (eqb (suc (suc i)) 1) 12 6) 10 (omega arith)
 
 pub low2 : (a b : ℕ) → a < 1000000 → b < 1000000 → Low (a ∷ b ∷ [])

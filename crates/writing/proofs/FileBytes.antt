@@ -150,9 +150,9 @@ pieces-line (b ∷ l) s t =
     let n : eqb b 10 ≡ false = ne-eqb b 10 (λ e. omega arith) in
     rw n (ap (λ (q : List ℕ × List (List ℕ)). onto false b q) (pieces-line l s (and-r (ltb 10 b) (above l) t)))
 
--- the first line of a file that is written
-pub pieces-file : (s : Sheet) (vs : List ℕ) (ls : List (List ℕ)) → pieces (fileBytes s (vs ∷ ls)) ≡ (lineColumns s vs, pieces (fileBytes s ls) .0 ∷ pieces (fileBytes s ls) .1)
-pieces-file s vs ls = pieces-line (lineColumns s vs) (fileBytes s ls) (above-columns (width s (getD vs 0 0)) 0 vs)
+-- a line that is written, and what follows it
+pub pieces-columns : (s : Sheet) (vs rest : List ℕ) → pieces (lineColumns s vs ++ (10 ∷ rest)) ≡ (lineColumns s vs, pieces rest .0 ∷ pieces rest .1)
+pieces-columns s vs rest = pieces-line (lineColumns s vs) rest (above-columns (width s (getD vs 0 0)) 0 vs)
 
 -- the file of these pieces
 abbrev pub joined : List ℕ → List (List ℕ) → List ℕ

@@ -102,7 +102,7 @@ module _ (r c l n : ℕ) (ns : List ℕ) where
   constants-taken (v ∷ cs) p t ls s e a b d next =
       let f : List ℕ = padded 6 (2 ∷ v ∷ []) in
       take-line p t (2 ∷ v ∷ []) (map (λ v. 2 ∷ v ∷ []) cs ++ ls)
-      (constant-written v (leb→le v largest (and-l (leb v largest) (allOf (λ v. leb v largest) cs) d)))
+      (constant-written v (omega (arith, leb→le v largest (and-l (leb v largest) (allOf (λ v. leb v largest) cs) d))))
       (accepts p 2 f refl (s .from1) (s .to2) (lt-ltb (p .ids) (p .constants) (omega (arith, s .known .same2))) refl (rw (T-true (leb v largest) (and-l (leb v largest) (allOf (λ v. leb v largest) cs) d))) refl
       (in-order (p .stage) 2 (p .newest) v (λ h. ltb→lt (p .newest) v (and-l (ltb (p .newest) v) (rising (v ∷ cs)) (b h)))))
       (constants-taken cs (further p f t) (placed p f t) ls

@@ -1,24 +1,28 @@
--- What is written is read back: the table of every well-formed automaton within the limits (`table-written`), and every target that fits (`target-written`).
+-- What is written is read back: the table of every well-formed automaton within the limits (`table-written`), and every target that fits (`target-written`);
+-- a constant that is too large is turned back (`constant-refused`).
 -- Assumes nothing.
-use Prim.Native.Nat.{ℕ, _*_, _≤_}
-use mathlib.Core.List.{List, [], _∷_, map}
+use Prim.Native.Nat.{ℕ, _+_, _*_, _^_, _≤_, _<_}
+use mathlib.Core.Bool.{true}
+use mathlib.Core.List.{List, [], _∷_, _++_, map}
 use mathlib.Core.Option.{some}
 use mathlib.Core.Path.{_≡_, refl, sym, ap}
 use native.Mathlib.Omega.{arith}
 use lib.Dec.{T}
 use lib.Ieee.Fits.{and-l, and-r}
 use lib.ListN.{length, length-append}
-use Rattle.refusals.specs.Judged.{_then_}
-use Rattle.refusals.specs.Judged.Judged.{accepted}
+use Rattle.refusals.specs.Judged.{refusal, _then_}
+use Rattle.refusals.specs.Judged.Judged.{accepted, refused}
 use Rattle.graphs.specs.Lists.{allOf}
 use Rattle.automata.specs.Automaton.{Condition, Automaton}
 use Rattle.automata.specs.Runs.{Target}
 use Rattle.automata.specs.WellFormed.{inside, fitsCondition, fitsConditions, wellFormed, limited, fitsTarget}
 use Rattle.forms.specs.TableForm.{countsRow, cell}
 use Rattle.forms.specs.FormAutomaton.{automatonOf, targetOf}
-use Rattle.reader.specs.TableRules.{atStart, beforeTarget}
-use Rattle.reader.specs.Table.{tableRules, readForm, readTable, readTarget}
+use Rattle.lists.specs.Arrays.{padded}
+use Rattle.reader.specs.TableRules.{kindAt, expected, atStart, beforeTarget}
+use Rattle.reader.specs.Table.{Read, tableRules, readForm, readTable, readTarget}
 use Rattle.reader.proofs.Shape.{Legal}
+use Rattle.reader.proofs.TableOutcomes.{too-large}
 use Rattle.reader.proofs.LegalForms.{target-legal}
 use Rattle.forms.proofs.Forms.{constant-count}
 use Rattle.columns.specs.declared.Sheet.the-variants.{Table}
@@ -29,14 +33,22 @@ use Rattle.writing.specs.Lines.{conditionLine, tableLines, targetLines, 
 use Rattle.columns.proofs.Columns.{plain-length, table-most}
 use Rattle.writing.proofs.FileBytes.{fields-columns}
 use Rattle.writing.proofs.Accepting.{constant-written}
-use Rattle.writing.proofs.Reading.{taken-short, file-read}
+use Rattle.writing.proofs.Reading.{Passed, taken-short, file-read, file-refused}
 use Rattle.writing.proofs.Canonical.{begun, lines-table, lines-target}
 use Rattle.writing.proofs.Injective.{table-injective, target-injective}
 use Rattle.writing.proofs.LinesTaken.{table-taken, target-taken}
 
 -- an identifier is read back from the line 2 that names it
 pub constant-read : (v : ℕ) → v ≤ largest → fields Table 6 (lineColumns Table (2 ∷ v ∷ [])) ≡ some (2 ∷ v ∷ [])
-constant-read v h = let w = constant-written v h in fields-columns Table 6 (2 ∷ v ∷ []) (w .few) (w .fits)
+constant-read v h = let w = constant-written v (omega arith) in fields-columns Table 6 (2 ∷ v ∷ []) (w .few) (w .fits)
+
+-- a larger number that its columns hold is 5 at its line: behind lines rs that are accepted, where a line 2 may stand, whatever follows it
+pub constant-refused : (rs : List (List ℕ)) (t : Read) (v : ℕ) (rest : List ℕ) → Passed tableRules rs (begun atStart) t → expected (t .progress) (kindAt (t .progress) 2 v) 2 ≡ true → largest < v → v < 10 ^ 12
+    → let s : List ℕ = fileBytes Table rs ++ (lineColumns Table (2 ∷ v ∷ []) ++ (10 ∷ rest)) in length s ≤ 40000 → readTable s ≡ refused (refusal 5 1 (length rs + 1))
+unfolding padded
+constant-refused rs t v rest passed e h l short =
+    ap (λ o. _then_ o (λ x. accepted (x .form)))
+    (file-refused tableRules 1 t (2 ∷ v ∷ []) rest (constant-written v l) 5 (too-large (t .progress) v e h) (λ z. omega arith) 40000 (begun atStart) rs short passed)
 
 -- that the file is not overlong needs no hypothesis: it has at most as many lines as a form has rows, of at most 43 bytes
 pub table-written : (a : Automaton) → T (wellFormed a) → T (limited a) → T (issued a) → (t : List ℕ) × (readTable (tableBytes a) ≡ accepted t) × (automatonOf t ≡ a)
