@@ -106,7 +106,7 @@ const VALUES: [usize; 22] = [
 ];
 /// Identifiers at the limit and beyond it: just, as far as one of 32 bits that wraps round to 7, and as far as twelve
 /// columns go.
-const IDENTIFIERS: [usize; 8] = [
+pub const IDENTIFIERS: [usize; 8] = [
     4_294_967_294,
     4_294_967_295,
     4_294_967_296,

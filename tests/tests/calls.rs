@@ -3,7 +3,7 @@
 use engine::answer;
 use engine::counter::{counter, falling};
 use engine::generate::{case, Shape};
-use engine::mutate::mutate;
+use engine::mutate::{mutate, IDENTIFIERS};
 use engine::print::fields;
 use engine::random::Random;
 use engine::read::Refusal;
@@ -212,22 +212,8 @@ fn wrong_bytes() {
 #[test]
 fn identifiers() {
     on_stack(|| {
-        let numbers: [u64; 14] = [
-            0,
-            7,
-            999_999,
-            1_000_000,
-            2_147_483_647,
-            2_147_483_648,
-            4_294_967_294,
-            4_294_967_295,
-            4_294_967_296,
-            4_294_967_303,
-            8_589_934_591,
-            9_999_999_999,
-            10_000_000_000,
-            999_999_999_999,
-        ];
+        let below = [0, 7, 999_999, 1_000_000, 2_147_483_647, 2_147_483_648];
+        let numbers = [&below[..], &IDENTIFIERS].concat();
         let [target, question] = [&[4, 1][..], &[1, 1, 0]].map(|l| fields(l).into_bytes());
         let mut seen = [0; 6];
         let mut try_lines = |constants: usize, lines: &str| {
@@ -235,7 +221,7 @@ fn identifiers() {
             let [code, _] = compare(table.as_bytes(), &target, &question, lines);
             seen[code.saturating_sub(100) as usize] += 1;
         };
-        for a in numbers {
+        for &a in &numbers {
             for line in [
                 format!("     2{a:12}\n"),
                 format!("     2{a:6}\n"),
@@ -254,7 +240,7 @@ fn identifiers() {
                     try_lines(constants, &line);
                 }
             }
-            for b in numbers {
+            for &b in &numbers {
                 try_lines(2, &format!("     2{a:12}\n     2{b:12}\n"));
                 try_lines(1, &format!("     2{a:12}\n     2{b:12}\n"));
             }

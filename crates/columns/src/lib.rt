@@ -9,6 +9,9 @@ ghost use lib.Seq.{sets};
 ghost use Rattle.columns.specs.Widths.{identifier, width as widthOf};
 ghost use Rattle.columns.specs.Columns.{column, lineColumns};
 
+// The largest identifier.
+pub const LARGEST: u64 = 4294967295;
+
 // What lines stand on, as far as their widths differ.
 pub enum Sheet {
     // a table or a target

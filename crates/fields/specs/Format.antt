@@ -48,7 +48,7 @@ abbrev pub onNumber : Option ℕ → (ℕ → Option (List ℕ)) → Option (Lis
 onNumber none more = none
 onNumber (some v) more = more v
 
--- what follows on a line, if anything does
+-- the first where a line has ended, else the second
 abbrev pub onRest : List ℕ → Option (List ℕ) → Option (List ℕ) → Option (List ℕ)
 onRest [] end more = end
 onRest (b ∷ l) end more = more

@@ -18,9 +18,6 @@ use fields::Lines;
 use forms::Form;
 use refusals::Refusal;
 
-// The largest identifier.
-const LARGEST: u64 = 4294967295;
-
 // How far a table is read. Locations are document 01's places, transitions its arcs.
 pub struct Progress {
     // the counts of line 1
@@ -184,12 +181,12 @@ fn may_stand(p: Progress, k: Kind, n: usize) -> bool
 fn are_issued(f: [u64; 6]) -> bool
     ensures { λ r. ⌜ r ≡ allOf (λ v. leb v largest) f ⌝ }
 {
-    (f[0] <= LARGEST)
-        & (f[1] <= LARGEST)
-        & (f[2] <= LARGEST)
-        & (f[3] <= LARGEST)
-        & (f[4] <= LARGEST)
-        & (f[5] <= LARGEST)
+    (f[0] <= columns::LARGEST)
+        & (f[1] <= columns::LARGEST)
+        & (f[2] <= columns::LARGEST)
+        & (f[3] <= columns::LARGEST)
+        & (f[4] <= columns::LARGEST)
+        & (f[5] <= columns::LARGEST)
 }
 
 // The fields of a line of its kind are in their ranges.
