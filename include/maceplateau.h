@@ -46,7 +46,8 @@ extern "C" {
 /* Do runs of the table reach the target? */
 uint32_t maceplateau_reach(const uint8_t *table, size_t table_length, const uint8_t *target, size_t target_length);
 
-/* Does the question hold at every permitted start of the table? */
+/* Does the question hold at every permitted start of the table? Where no step exists the segment stays: questions count one step there that changes
+ * nothing. Reaching does not. */
 uint32_t maceplateau_ask(const uint8_t *table, size_t table_length, const uint8_t *question, size_t question_length);
 
 /* The same of a question as one line of text, as AG!(L3&r1=r2), without a byte 10 or 0 at its end:

@@ -287,8 +287,8 @@ fn run() {
     asking(&many_losses(1));
     // These take minutes.
     if std::env::args().any(|a| a == "all") {
-        asking(&many_rounds(31));
-        asking(&many_losses(31));
+        asking(&many_rounds(29));
+        asking(&many_losses(29));
     }
 
     header("questions as text", &["plain", "going back"]);
@@ -329,7 +329,7 @@ fn write_files(folder: &str) -> std::io::Result<()> {
         ("sample", sample()),
         ("worst", worst(Worst::Set)),
         ("long", long_run()),
-        ("rounds", many_rounds(31)),
+        ("rounds", many_rounds(29)),
         ("losses", many_losses(1)),
     ] {
         std::fs::write(format!("{folder}/{name}.table"), &c.table)?;

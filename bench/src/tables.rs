@@ -503,13 +503,14 @@ fn lower(to: usize) -> Vec<(usize, usize, usize, String, String)> {
     arcs
 }
 
-/// `rows` rows of EG over five registers, two constants and sixteen places with these arcs.
+/// Five registers, two constants and sixteen places with these arcs, of which none leads from place 1 to place 1. The
+/// configuration that is stuck there alone has EG of place 1; the question is `rows` rows of EG of all others.
 fn rounds(name: String, arcs: &[(usize, usize, usize, String, String)], rows: usize) -> Case {
     let arcs: Vec<(usize, usize, usize, &str, &str)> = arcs
         .iter()
         .map(|(from, to, n, when, set)| (*from, *to, *n, when.as_str(), set.as_str()))
         .collect();
-    let question = format!("2 1 1{}", "; 8 1 0".repeat(rows));
+    let question = format!("1 1 0; 8 1 0; 4 2 0{}", "; 8 3 0".repeat(rows));
     case(
         &name,
         Flow {
@@ -524,18 +525,18 @@ fn rounds(name: String, arcs: &[(usize, usize, usize, String, String)], rows: us
     )
 }
 
-/// All 10,784 configurations in one falling order: a step lowers the place, or from place 1 the list. So each round of
-/// EG takes away one configuration only, and `rows` rows need 10,784 rounds each.
+/// All 10,784 configurations in one falling order, the last one stuck: a step lowers the place, or from place 1 the list.
+/// So each round of EG of the others takes away one configuration only, and `rows` rows need 10,783 rounds each.
 pub fn many_rounds(rows: usize) -> Case {
     let mut arcs = lower(16);
     for place in 2..=16 {
         arcs.push((place, place - 1, 0, String::new(), "keep".to_string()));
     }
-    rounds(format!("{rows} rows of 10,784 rounds"), &arcs, rows)
+    rounds(format!("{rows} rows of 10,783 rounds"), &arcs, rows)
 }
 
-/// The configurations of the first three places in one falling order, and steps from all others to all of these. So 2,022
-/// rounds of EG take away one configuration each, and after each all 8,762 others have lost a step.
+/// The configurations of the first three places in one falling order, the last one stuck, and steps from all others to all
+/// of these. So 2,021 rounds of EG take away one configuration each, and after each all 8,762 others have lost a step.
 pub fn many_losses(rows: usize) -> Case {
     let mut arcs = lower(3);
     arcs.push((3, 2, 0, String::new(), "keep".to_string()));
@@ -545,7 +546,7 @@ pub fn many_losses(rows: usize) -> Case {
             arcs.push((place, to, 0, String::new(), String::new()));
         }
     }
-    rounds(format!("{rows} rows of 2,022 rounds, 8,762 losses each"), &arcs, rows)
+    rounds(format!("{rows} rows of 2,021 rounds, 8,762 losses each"), &arcs, rows)
 }
 
 /// A question as text, and the number of the refusal that it gets, if it gets one.

@@ -2,7 +2,7 @@
 //! passed one after the other between two counts.
 
 use crate::random::Random;
-use crate::table::{Arc, Condition, Table, Target, Term};
+use crate::table::{Arc, Condition, Row, Table, Target, Term};
 
 fn same(left: Term, right: Term) -> Condition {
     Condition {
@@ -152,8 +152,9 @@ pub fn counter(random: &mut Random, registers: usize, further: usize, wide: bool
 }
 
 /// All configurations of five registers, two constants and sixteen places in one falling order: a step lowers the place,
-/// or from place 1 the list. Each round of EG takes away one configuration only.
-pub fn falling() -> (Table, Target) {
+/// or from place 1 the list. The last one is stuck, and there alone EG of place 1 holds. The question is EG of all others:
+/// each round takes away one configuration only.
+pub fn falling() -> (Table, Target, Vec<Row>) {
     let keep = |until: usize| (1..until).map(|r| (r, Term::Register(r)));
     let mut arcs = Vec::new();
     for i in 1..=5 {
@@ -203,5 +204,10 @@ pub fn falling() -> (Table, Target) {
         arcs,
     };
     let conditions = (1..=5).map(|r| same(Term::Register(r), LOW)).collect();
-    (table, Target { place: 1, conditions })
+    let question = [(1, 1, 0), (8, 1, 0), (4, 2, 0), (8, 3, 0)];
+    (
+        table,
+        Target { place: 1, conditions },
+        question.map(|(kind, a, b)| Row { kind, a, b }).to_vec(),
+    )
 }

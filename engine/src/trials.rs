@@ -92,24 +92,48 @@ fn concat_lines(lines: &[&[usize]]) -> Vec<u8> {
 }
 
 /// Document 01's sample, its sixteen lines.
+const SAMPLE: [&[usize]; 16] = [
+    &[1, 2, 1, 3, 2, 2],
+    &[2, 0],
+    &[3, 1],
+    &[3, 1],
+    &[4, 1],
+    &[5, 1, 1, 1, 3, 1],
+    &[5, 1, 2, 1, 3, 1],
+    &[6, 1, 1, 2],
+    &[7, 2, 1, 2, 3, 1],
+    &[8, 1, 2, 1],
+    &[8, 2, 3, 1],
+    &[6, 2, 2, 3],
+    &[7, 2, 1, 2, 1, 1],
+    &[7, 2, 1, 2, 3, 1],
+    &[8, 1, 1, 1],
+    &[8, 2, 2, 1],
+];
+
 pub fn sample_table() -> Vec<u8> {
+    concat_lines(&SAMPLE)
+}
+
+/// The sample without its second arc: it stops at place 2, translated.
+fn sample_stopped() -> Vec<u8> {
+    let mut lines = SAMPLE[..11].to_vec();
+    lines[0] = &[1, 2, 1, 3, 2, 1];
+    concat_lines(&lines)
+}
+
+/// A place with an arc that fits for some contents only: a parameter is to equal both the register and the constant. With
+/// others the segment is stuck at place 1, and with all at place 2.
+pub fn partly_stuck() -> Vec<u8> {
     concat_lines(&[
-        &[1, 2, 1, 3, 2, 2],
+        &[1, 1, 1, 2, 1, 1],
         &[2, 0],
         &[3, 1],
-        &[3, 1],
         &[4, 1],
-        &[5, 1, 1, 1, 3, 1],
-        &[5, 1, 2, 1, 3, 1],
         &[6, 1, 1, 2],
-        &[7, 2, 1, 2, 3, 1],
-        &[8, 1, 2, 1],
-        &[8, 2, 3, 1],
-        &[6, 2, 2, 3],
-        &[7, 2, 1, 2, 1, 1],
-        &[7, 2, 1, 2, 3, 1],
+        &[7, 2, 1, 1, 1, 1],
+        &[7, 2, 1, 1, 3, 1],
         &[8, 1, 1, 1],
-        &[8, 2, 2, 1],
     ])
 }
 

@@ -1,11 +1,14 @@
-//! Document 01's sample and all its worked examples, starred and not.
+//! Document 01's sample and all its worked examples, starred and not, as document 02 changed them; the folders of examples/.
 
-use engine::answer::{ask, reach};
+use engine::answer::{ask, ask_text, reach};
 use engine::class::{class_of_contents, class_of_matrix, contents_of_class, list_of, matrix_of_class, Classes};
 use engine::graph::{Graph, Method};
 use engine::print::{asked, reached, replayed, Form};
 use engine::read::{read_question, read_table, read_target, Refusal};
 use engine::replay::{replay, Replayed};
+use engine::trials::partly_stuck;
+use std::fs;
+use std::path::Path;
 
 /// Lines with single spaces, set in columns: twelve for the identifier of a table's line 2, else six.
 fn file(lines: &[&str]) -> Vec<u8> {
@@ -163,7 +166,9 @@ fn equal_registers() {
 #[test]
 fn questions() {
     for method in METHODS {
-        let no = ask(&sample(), &file(&["2 1 1", "8 1 0"]), method);
+        let yes = ask(&sample(), &file(&["2 1 1", "8 1 0"]), method);
+        assert_eq!(asked(Form::Fields, &yes), "     1\n");
+        let no = ask(&sample(), &file(&["1 1 0", "8 1 0"]), method);
         assert_eq!(asked(Form::Fields, &no), "     0     0           0           0\n");
         let yes = ask(&sample(), &file(&["1 3 0", "14 1 0"]), method);
         assert_eq!(asked(Form::Fields, &yes), "     1\n");
@@ -188,25 +193,147 @@ fn habits() {
     ]);
     let answer = reach(&table, &file(&["4 2"]), None).unwrap();
     assert_eq!((answer.reached, answer.count), (false, 1));
-    // A register that is not set may hold anything; EG fails where nothing follows, AX holds.
+    // A register that is not set may hold anything.
     let table = file(&["1 1 1 2 1 1", "2 0", "3 0", "4 1", "5 1 1 1 3 1", "6 1 1 2"]);
     let answer = reach(&table, &file(&["4 2", "5 1 1 2 3 1"]), None);
     assert_eq!(
         reached(Form::Fields, &answer),
         "     1     1     3\n     0     0     1           0\n     1     1     2           1\n"
     );
-    assert_eq!(
-        asked(Form::Fields, &ask(&table, &file(&["1 2 0", "8 1 0", "4 2 0"]), None)),
-        "     1\n"
+}
+
+/// Where each of these rows holds, a bit for each of the first 32 configurations.
+fn rows_hold(table: &[u8], rows: &[(&str, u32)]) {
+    let question: Vec<&str> = rows.iter().map(|row| row.0).collect();
+    for method in METHODS {
+        let words = ask(table, &file(&question), method).unwrap().rows;
+        for (i, (row, holds)) in rows.iter().enumerate() {
+            assert_eq!(words[337 * i], *holds, "{row}");
+        }
+    }
+}
+
+/// Where no step exists the segment stays: here at place 1 with other contents than the constant, though an arc leaves
+/// that place, and at place 2. Configurations 0 and 2 hold the constant, and a step leads from 0 to 2.
+#[test]
+fn stuck_at_an_arc() {
+    let table = partly_stuck();
+    rows_hold(
+        &table,
+        &[
+            ("1 1 0", 0b0011),
+            ("1 2 0", 0b1100),
+            ("5 1 2", 0),
+            ("4 3 0", 0b1111),
+            // EX of place 1, of place 2, of nothing, of everything.
+            ("6 1 0", 0b0010),
+            ("6 2 0", 0b1101),
+            ("6 3 0", 0),
+            ("6 4 0", 0b1111),
+            // AX.
+            ("11 1 0", 0b0010),
+            ("11 2 0", 0b1101),
+            ("11 3 0", 0),
+            ("11 4 0", 0b1111),
+            // EG.
+            ("8 1 0", 0b0010),
+            ("8 2 0", 0b1100),
+            ("8 3 0", 0),
+            ("8 4 0", 0b1111),
+            // AF.
+            ("14 1 0", 0b0011),
+            ("14 2 0", 0b1101),
+            ("14 3 0", 0),
+            ("14 4 0", 0b1111),
+            // E U, EF and AG are what they are without the stay.
+            ("7 1 2", 0b1101),
+            ("12 2 0", 0b1101),
+            ("13 1 0", 0b0010),
+        ],
     );
-    assert_eq!(
-        asked(Form::Fields, &ask(&table, &file(&["1 1 0", "11 1 0"]), None)),
-        "     0     0           0\n"
-    );
-    assert_eq!(
-        asked(Form::Fields, &ask(&table, &file(&["1 1 0", "11 1 0", "11 2 0"]), None)),
-        "     1\n"
-    );
+    let no = ask(&table, &file(&["1 2 0", "14 1 0"]), None);
+    assert_eq!(asked(Form::Fields, &no), "     0     1           1\n");
+    // Nothing else sees the stay.
+    for method in [Method::Pool, Method::Class] {
+        let graph = Graph::new(&read_table(&table).unwrap(), method);
+        for node in 0..graph.nodes() {
+            let next: Vec<usize> = graph
+                .successors(node)
+                .iter()
+                .map(|&m| graph.configuration[m as usize])
+                .collect();
+            let expected: &[usize] = if graph.configuration[node] == 0 { &[2] } else { &[] };
+            assert_eq!(next, expected);
+        }
+    }
+    let answer = reach(&table, &file(&["4 2"]), None).unwrap();
+    assert_eq!((answer.steps, answer.count), (1, 3));
+    assert_eq!(answer.least[..4], [0, 0, 1, 65_535]);
+    assert_eq!(answer.link[..4], [0, 1, 0, 65_535]);
+    let stay = [5, 0, 0, 0, 0, 0, 0, 0, 0, 5, 0, 0, 0, 0];
+    assert_eq!(replay(&table, &stay), Ok(Replayed::Bad(1)));
+}
+
+/// An arc that can never be met counts for nothing: the segment stays wherever it is.
+#[test]
+fn arcs_never_met() {
+    for never in [
+        &["7 1 1 2 1 1"][..],
+        &["7 2 1 1 1 1", "7 2 1 2 1 1"],
+        &["7 2 1 1 3 1", "7 2 1 1 3 2"],
+    ] {
+        let head = ["1 1 2 2 1 1", "2 0", "2 7", "3 1", "4 1", "6 1 1 2"];
+        let table = file(&[&head, never].concat());
+        rows_hold(
+            &table,
+            &[
+                ("1 1 0", 0b000111),
+                ("6 1 0", 0b000111),
+                ("11 1 0", 0b000111),
+                ("8 1 0", 0b000111),
+                ("14 1 0", 0b000111),
+                ("4 1 0", 0b111000),
+                ("6 6 0", 0b111000),
+                ("14 6 0", 0b111000),
+            ],
+        );
+    }
+}
+
+/// The sample without its second arc stops at place 2, translated: AF place 3 is no.
+#[test]
+fn stopped_short() {
+    let stopped: Vec<&str> = ["1 2 1 3 2 1"]
+        .into_iter()
+        .chain(SAMPLE[1..11].iter().copied())
+        .collect();
+    for method in METHODS {
+        let no = ask(&file(&stopped), &file(&["1 3 0", "14 1 0"]), method);
+        assert_eq!(asked(Form::Fields, &no), "     0     0           0           0\n");
+        let yes = ask(&file(&stopped), &file(&["1 2 0", "8 1 0", "14 2 0"]), method);
+        assert_eq!(asked(Form::Fields, &yes), "     1\n");
+        let never = reach(&file(&stopped), &file(&["4 3"]), method);
+        assert_eq!(reached(Form::Fields, &never), "     0     0     2\n");
+    }
+}
+
+/// What a folder's page says is printed for its files is printed.
+#[test]
+fn folders() {
+    let examples = Path::new(env!("CARGO_MANIFEST_DIR")).join("../examples");
+    for name in ["own-revision", "mended", "machine-translated", "stopped"] {
+        let part = |file: &str| fs::read(examples.join(name).join(file)).expect("a file");
+        let (table, page) = (part("table.txt"), String::from_utf8(part("README.md")).expect("a page"));
+        for printout in [
+            reached(Form::Fields, &reach(&table, &part("target.txt"), None)),
+            asked(Form::Fields, &ask_text(&table, &part("question_text.txt"), None)),
+        ] {
+            assert!(
+                page.contains(&format!("prints:\n\n```\n{printout}```\n")),
+                "{name}:\n{printout}"
+            );
+        }
+    }
 }
 
 #[test]

@@ -27,6 +27,7 @@ static const char sample[] =
 static const char place_3[] = "     4     3\n";
 static const char registers_equal[] = "     4     3\n     5     1     1     1     1     2\n";
 static const char always_itself[] = "     2     1     1\n     8     1     0\n";
+static const char always_place_1[] = "     1     1     0\n     8     1     0\n";
 static const char at_last_place_3[] = "     1     3     0\n    14     1     0\n";
 static const char names_itself[] = "     1     3     0\n    14     2     0\n";
 static const char place_4[] = "     4     4\n";
@@ -87,6 +88,7 @@ static void ask_text(const char *what, uint32_t reply, const char *table, const 
 int main(void)
 {
     char damaged[sizeof sample], sized[sizeof sample], largest[sizeof sample], larger[sizeof sample], narrow[sizeof sample];
+    char stopped[sizeof sample];
     static char overlong[40001];
     memcpy(damaged, sample, sizeof sample);
     damaged[sizeof sample - 2] = ' ';
@@ -99,14 +101,21 @@ int main(void)
     larger[54] = '6';
     memcpy(narrow, sample, 43);
     memcpy(narrow + 43, sample + 49, sizeof sample - 49);
+    /* Without its second arc the sample stops at place 2. */
+    memcpy(stopped, sample, sizeof sample);
+    stopped[35] = '1';
+    *strstr(stopped, "     6     2     2     3\n") = 0;
     memset(overlong, ' ', sizeof overlong);
     char nots[402];
     memset(nots, '!', sizeof nots);
 
     reach("place 3", 1, sample, place_3);
     reach("place 3 with registers equal", 0, sample, registers_equal);
-    ask("EG of register 1 = register 1", 0, sample, always_itself);
+    ask("EG of register 1 = register 1", 1, sample, always_itself);
+    ask("EG of place 1", 0, sample, always_place_1);
     ask("AF place 3", 1, sample, at_last_place_3);
+    reach("place 3, stopped at place 2", 0, stopped, place_3);
+    ask("AF place 3, stopped at place 2", 0, stopped, at_last_place_3);
 
     reach("reach, a damaged table", 102, damaged, place_3);
     ask("ask, a damaged table", 102, damaged, at_last_place_3);
@@ -128,7 +137,10 @@ int main(void)
     ask("a row that names itself", 108, sample, names_itself);
 
     ask_text("nobody revises her own segment", 1, sample, "AG!(L3&r1=r2)");
-    ask_text("EG of register 1 = register 1, as text", 0, sample, "EGr1=r1");
+    ask_text("EG of register 1 = register 1, as text", 1, sample, "EGr1=r1");
+    ask_text("EG of place 1, as text", 0, sample, "EGL1");
+    ask_text("AF place 3, stopped at place 2, as text", 0, stopped, "AFL3");
+    ask_text("stopped at place 2 for good", 1, stopped, "AFEGL2");
     ask_text("E U", 1, sample, "E(r2=c1UL3)");
     ask_text("a text, a damaged table", 102, damaged, "AFL3");
     ask_text("a text, six registers", 103, sized, "x");

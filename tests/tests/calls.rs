@@ -10,7 +10,7 @@ use engine::read::Refusal;
 use engine::table::Row;
 use engine::text::rows;
 use engine::texts;
-use engine::trials::sample_table;
+use engine::trials::{partly_stuck, sample_table};
 use engine::write;
 
 /// Runs a test with the stack that a C program's first thread has.
@@ -355,7 +355,7 @@ fn long_texts() {
     });
 }
 
-/// The longest run that the counters give, and 10,784 rounds.
+/// The longest run that the counters give, and 10,783 rounds.
 #[test]
 fn long_work() {
     on_stack(|| {
@@ -363,10 +363,38 @@ fn long_work() {
         let question = [(1, 1, 0), (12, 1, 0), (13, 2, 0)].map(|(kind, a, b)| Row { kind, a, b });
         let (table, target) = (write::table(&table), write::target(&target));
         assert_eq!(compare(&table, &target, &write::question(&question), "counter"), [1, 1]);
-        let (table, target) = falling();
-        let question = [(2, 1, 1), (8, 1, 0)].map(|(kind, a, b)| Row { kind, a, b });
+        let (table, target, question) = falling();
         let (table, target) = (write::table(&table), write::target(&target));
         assert_eq!(compare(&table, &target, &write::question(&question), "falling"), [1, 0]);
+    });
+}
+
+/// Where no step exists the segment stays, for questions: at a place whose arc fits for some contents only, and at the end of
+/// the sample.
+#[test]
+fn stuck_segments() {
+    on_stack(|| {
+        let target = fields(&[4, 2]).into_bytes();
+        for (text, yes) in [
+            ("(r1=c1|EGL1)", 1),
+            ("(r1=c1|AXL1)", 1),
+            ("(r1=c1|EXL1)", 1),
+            ("(!r1=c1|AFL2)", 1),
+            ("AFL2", 0),
+            ("EXL2", 0),
+            ("EXL1", 0),
+            ("EGL1", 0),
+            ("EXr1=r1", 1),
+            ("AX!r1=r1", 0),
+        ] {
+            let table = partly_stuck();
+            let question = write::question(&rows(text.as_bytes()).expect("a question"));
+            assert_eq!(compare(&table, &target, &question, text), [1, yes], "{text}");
+            assert_eq!(compare_text(&table, text.as_bytes(), text), yes, "{text}");
+        }
+        for (text, yes) in [("EGr1=r1", 1), ("AFEGL3", 1), ("EGL1", 0), ("AFL3", 1)] {
+            assert_eq!(compare_text(&sample_table(), text.as_bytes(), text), yes, "{text}");
+        }
     });
 }
 

@@ -1,15 +1,15 @@
--- A claim that passes its test is true, and all the starred examples of document 01 pass.
+-- A claim that passes its test is true, so all examples are.
 -- Assumes nothing.
 use Prim.Native.Nat.{ℕ}
 use mathlib.Core.Bool.{_&&_}
-use mathlib.Core.List.{flatMap, zipWith, List, [], _∷_, List·Memᴰ, Memᴰ·cast}
+use mathlib.Core.List.{List, [], _∷_, List·Memᴰ, Memᴰ·cast}
 use mathlib.Core.Option.{Option, none, some}
 use mathlib.Core.Path.{_≡_, refl, sym, ap, _∙_, subst, subst⁻¹}
 use native.Mathlib.Omega.{arith}
 use lib.Dec.{T, eqb, eqb→eq}
 use lib.Ieee.Fits.{and-l, and-r}
 use lib.ListN.{length, getD, length-map}
-use Rattle.graphs.specs.Lists.{eqList, allOf, select}
+use Rattle.graphs.specs.Lists.{eqList, select}
 use Rattle.graphs.specs.Formulas.{Formula}
 use Rattle.graphs.specs.Search.{Walk, steps}
 use Rattle.graphs.proofs.Lists.{and-elim, allOf-mem, eqList→eq, getD-mem, mem-select, select-mem}
@@ -35,6 +35,7 @@ use Rattle.automata.proofs.Questions.{replies}
 use Rattle.automata.proofs.Numbering.{configuration-path, listed-mem, mem-listed}
 use Rattle.automata.proofs.ClassBisimulation.{wf-constants, conf-listed, step-proper, step-forth, step-back}
 use Rattle.automata.proofs.Reachability.{decides}
+use Rattle.automata.proofs.ExamplesPass.{passes}
 
 eqConfigurations→eq : (cs ds : List Configuration) → T (eqConfigurations cs ds) → cs ≡ ds
 eqConfigurations→eq [] [] t = refl
@@ -116,7 +117,6 @@ sound (fails a f) t =
     let wf : T (wellFormed a) = search (and-l, and-r) in
     fails-somewhere a wf f (failing a f) (replies a wf f (search (and-l, and-r))) (search (and-l, and-r))
 
--- every starred example is true of the definitions, by one computation
+-- every example, those with a star first, is true of the definitions
 pub examples-hold : (c : Claim) → List·Memᴰ c examples → Means c
-unfolding flatMap zipWith
-examples-hold c m = let passes : T (allOf check examples) = tt in sound c (allOf-mem check examples passes m)
+examples-hold c m = sound c (allOf-mem check examples passes m)

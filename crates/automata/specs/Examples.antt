@@ -1,4 +1,5 @@
--- The worked examples that document 01 marks with a star, and one or more for each kind of row: claims, a test of each by computation, and the table of them.
+-- The worked examples that document 01 marks with a star, one or more for each kind of row, and the stays of questions: claims, a test of each by computation,
+-- and the table of them.
 -- Assumes nothing.
 use Prim.Native.Nat.{ℕ}
 use mathlib.Core.Bool.{Bool, true, false, _&&_}
@@ -9,18 +10,18 @@ use mathlib.Core.Path.{_≡_}
 use lib.Dec.{T, eqb}
 use lib.ListN.{length}
 use Rattle.graphs.specs.Lists.{eqList, select}
-use Rattle.graphs.specs.Formulas.{Formula, AF}
-use Rattle.graphs.specs.Formulas.Formula.{atom, EG}
+use Rattle.graphs.specs.Formulas.{Formula, implies, AX, AF}
+use Rattle.graphs.specs.Formulas.Formula.{atom, neg, EX, EG}
 use Rattle.graphs.specs.Search.{Walk, steps}
 use Rattle.classes.specs.Renaming.{SameClass, Distinct, Representatives}
 use Rattle.classes.specs.Classes.{labels, lists}
 use Rattle.classes.specs.Matrix.{matrix}
 use Rattle.classes.specs.MatrixClasses.{classOfMatrix}
-use Rattle.automata.specs.Automaton.{Term, Condition, Assignment, Automaton}
+use Rattle.automata.specs.Automaton.{Term, Condition, Assignment, Transition, Automaton}
 use Rattle.automata.specs.Automaton.Term.{register, parameter, constant}
 use Rattle.automata.specs.Runs.{State, Move, Target, Step, Shortest, Never, permitted, initial, isRun, final, hits}
 use Rattle.automata.specs.Questions.{Atom, row, Holds, HoldsAtStarts, question}
-use Rattle.automata.specs.Questions.Atom.{at, equal}
+use Rattle.automata.specs.Questions.Atom.{at, equal, is}
 use Rattle.automata.specs.WellFormed.{wellFormed, inside, fitsTarget}
 use Rattle.automata.specs.FormulaFits.{fitsFormula}
 use Rattle.automata.specs.Configurations.{Configuration, configuration, conf}
@@ -104,27 +105,32 @@ infix 70 _:=_
 abbrev pub _:=_ : ℕ → Term → Assignment
 i := t = record { register = i; source = t }
 
--- document 01's sample, with the assignments of its second transition; register 1 translator, 2 reviser, constant 1 nobody
-abbrev pub workflow : List Assignment → Automaton
-workflow second = record {
+-- document 01's sample, with what follows its first transition; register 1 translator, 2 reviser, constant 1 nobody
+abbrev pub workflow : List Transition → Automaton
+workflow rest = record {
   registers = 2;
   constants = 0 ∷ [];
   locations = 3;
   arities = 1 ∷ 1 ∷ [];
   start = 1;
   starting = register 1 equals constant 1 ∷ register 2 equals constant 1 ∷ [];
-  transitions =
-      record { from = 1; action = 1; to = 2; guard = parameter 1 differs constant 1 ∷ []; assigns = 1 := parameter 1 ∷ 2 := constant 1 ∷ [] }
-      ∷ record { from = 2; action = 2; to = 3; guard = parameter 1 differs register 1 ∷ parameter 1 differs constant 1 ∷ []; assigns = second }
-      ∷ [];
+  transitions = record { from = 1; action = 1; to = 2; guard = parameter 1 differs constant 1 ∷ []; assigns = 1 := parameter 1 ∷ 2 := constant 1 ∷ [] } ∷ rest;
 }
 
+-- its second transition, with its assignments
+abbrev pub revision : List Assignment → Transition
+revision second = record { from = 2; action = 2; to = 3; guard = parameter 1 differs register 1 ∷ parameter 1 differs constant 1 ∷ []; assigns = second }
+
 abbrev pub sample : Automaton
-sample = workflow (1 := register 1 ∷ 2 := parameter 1 ∷ [])
+sample = workflow (revision (1 := register 1 ∷ 2 := parameter 1 ∷ []) ∷ [])
 
 -- the sample without the line `8 1 1 1`
 abbrev pub loose : Automaton
-loose = workflow (2 := parameter 1 ∷ [])
+loose = workflow (revision (2 := parameter 1 ∷ []) ∷ [])
+
+-- the sample that stops at location 2, "translated"
+abbrev pub stopped : Automaton
+stopped = workflow []
 
 -- source 001, example 3
 abbrev pub example3 : Automaton
@@ -154,7 +160,7 @@ deliveredByOne = record { location = 3; conditions = register 1 equals register 
 abbrev pub move : ℕ → List ℕ → List ℕ → Move
 move t ps w = record { transition = t; parameters = ps; valuation = w }
 
--- Document 01, the examples marked with a star, in its order
+-- Document 01, the examples marked with a star, in its order; of EG document 02, W3, says that it becomes yes
 
 abbrev pub starred : List Claim
 starred =
@@ -169,7 +175,7 @@ starred =
     ∷ shortest sample delivered 2 (0 ∷ 0 ∷ []) (move 1 (1 ∷ []) (1 ∷ 0 ∷ []) ∷ move 2 (2 ∷ []) (1 ∷ 2 ∷ []) ∷ [])
     ∷ never sample deliveredByOne
     ∷ shortest loose deliveredByOne 2 (0 ∷ 0 ∷ []) (move 1 (1 ∷ []) (1 ∷ 0 ∷ []) ∷ move 2 (2 ∷ []) (2 ∷ 2 ∷ []) ∷ [])
-    ∷ fails sample (EG (atom (equal 1 1)))
+    ∷ holds sample (EG (atom (equal 1 1)))
     ∷ holds sample (AF (atom (at 3)))
     ∷ []
 
@@ -207,10 +213,11 @@ ofKinds =
     ∷ fails sample (onPlaces 10 1 2)
     ∷ holds sample (onPlaces 10 2 1)
     ∷ holds sample (onPlaces 10 2 3)
-    -- 11, AX: also where nothing can follow, as after two steps
+    -- 11, AX: after two steps the segment is at place 3, and stays there
     ∷ holds sample (onPlace 11 2)
     ∷ fails sample (onPlace 11 3)
-    ∷ holds sample (question (row 1 1 0 ∷ row 11 1 0 ∷ row 11 2 0 ∷ row 11 3 0 ∷ []))
+    ∷ fails sample (question (row 1 1 0 ∷ row 11 1 0 ∷ row 11 2 0 ∷ row 11 3 0 ∷ []))
+    ∷ holds sample (question (row 1 3 0 ∷ row 11 1 0 ∷ row 11 2 0 ∷ row 11 3 0 ∷ []))
     -- 12, EF: place 3; with no step place 1; never place 3 with equal registers
     ∷ holds sample (onPlace 12 3)
     ∷ holds sample (onPlace 12 1)
@@ -220,5 +227,52 @@ ofKinds =
     ∷ fails sample (onPlace 13 1)
     ∷ []
 
+-- The stays
+
+-- one register, one constant, and a transition from location 1 to location 2 under this guard
+abbrev pub gate : List Condition → Automaton
+gate guard = record {
+  registers = 1;
+  constants = 0 ∷ [];
+  locations = 2;
+  arities = 0 ∷ [];
+  start = 1;
+  starting = [];
+  transitions = record { from = 1; action = 1; to = 2; guard = guard; assigns = 1 := register 1 ∷ [] } ∷ [];
+}
+
+-- passed only with the constant, and never passed
+abbrev pub partly : Automaton
+partly = gate (register 1 equals constant 1 ∷ [])
+
+abbrev pub shut : Automaton
+shut = gate (register 1 differs register 1 ∷ [])
+
+-- the register does not hold the constant, so that at location 1 of `partly` the transition does not fit
+abbrev pub barred : Formula Atom → Formula Atom
+barred f = implies (neg (atom (is 1 1))) f
+
+abbrev pub stays : List Claim
+stays =
+    -- document 02's own: translated, and never delivered
+    fails stopped (AF (atom (at 3)))
+    ∷ holds stopped (AF (EG (atom (at 2))))
+    -- location 1 has a transition, and is stuck for one class only: there it stays, at location 1
+    ∷ fails partly (AF (atom (at 2)))
+    ∷ holds partly (barred (EG (atom (at 1))))
+    ∷ holds partly (barred (EX (atom (at 1))))
+    ∷ fails partly (barred (AX (atom (at 2))))
+    -- with the other class the transition is the only step
+    ∷ fails partly (EX (atom (at 1)))
+    ∷ holds partly (implies (atom (is 1 1)) (AF (atom (at 2))))
+    -- a transition that is never met counts for nothing
+    ∷ holds shut (AX (atom (at 1)))
+    ∷ fails shut (AF (atom (at 2)))
+    -- steps and runs know no stay: none leads on from where the segment is stuck
+    ∷ successors partly (state 1 (0 ∷ [])) (configuration 2 (1 ∷ []) ∷ [])
+    ∷ successors partly (state 1 (7 ∷ [])) []
+    ∷ successors sample (state 3 (1 ∷ 2 ∷ [])) []
+    ∷ []
+
 abbrev pub examples : List Claim
-examples = starred ++ ofKinds
+examples = starred ++ ofKinds ++ stays

@@ -1,8 +1,10 @@
--- Questions: formulas over steps with real identifiers (source 001, section 5), and the rows in which document 01 writes them.
+-- Questions: formulas over steps with real identifiers (source 001, section 5) and stays (document 02, W3), and the rows in which document 01 writes them.
 -- Assumes nothing.
 use Prim.Native.Nat.{ℕ, pred}
 use mathlib.Core.Bool.{Bool}
 use mathlib.Core.List.{List, [], _∷_, _++_}
+use mathlib.Core.Logic.{_⊎_}
+use mathlib.Core.Path.{_≡_}
 use lib.Dec.{T, eqb}
 use lib.ListN.{length, getD}
 use Rattle.graphs.specs.Lists.{item}
@@ -23,9 +25,17 @@ shows a (at l) s = eqb (s .location) l
 shows a (equal i j) s = eqb (item (s .valuation) i) (item (s .valuation) j)
 shows a (is i j) s = eqb (item (s .valuation) i) (item (a .constants) j)
 
--- the formula holds at the state, over steps with real identifiers
+-- no step leads from the state: no transition fits, with any parameters
+abbrev pub Stuck : Automaton → State → Type 0
+Stuck a s = (s′ : State) → Step a s s′ → ⊥
+
+-- a step of questions: a step, or, from a state that is stuck, the one to itself
+abbrev pub StepOrStay : Automaton → State → State → Type 0
+StepOrStay a s s′ = Step a s s′ ⊎ (Stuck a s × (s ≡ s′))
+
+-- the formula holds at the state, over the steps of questions
 abbrev pub Holds : Automaton → Formula Atom → State → Type 0
-Holds a f s = Sat (Step a) (λ x s′. T (shows a x s′)) f s
+Holds a f s = Sat (StepOrStay a) (λ x s′. T (shows a x s′)) f s
 
 -- the question's answer is yes: the formula holds at every permitted start
 abbrev pub HoldsAtStarts : Automaton → Formula Atom → Type 0

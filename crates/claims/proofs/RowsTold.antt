@@ -1,4 +1,4 @@
--- The words of a question's rows are right of formulas over steps with real identifiers.
+-- The words of a question's rows are right of formulas over steps with real identifiers and stays.
 -- Assumes nothing.
 use Prim.Native.Nat.{ℕ, pred, _+_, _*_, _/_, _%_, _≤_, _<_, _^_}
 use mathlib.Core.Bool.{Bool, false}
@@ -13,12 +13,12 @@ use lib.ListN.{length, getD, take, drop, length-map, length-drop, List·getD-eq-
 use lib.Seq.{getD-take, getD-drop, ext-getD}
 use Rattle.sets.specs.Members.{bit, member}
 use Rattle.graphs.specs.Formulas.{Formula}
-use Rattle.graphs.specs.Graph.{sat}
 use Rattle.automata.specs.Automaton.{Automaton}
 use Rattle.automata.specs.Questions.{Atom, Row, rowOf, rowFormulas}
 use Rattle.automata.specs.WellFormed.{wellFormed, limited, inside, fitsRows, fitsQuestion}
 use Rattle.automata.specs.Configurations.{conf, number}
-use Rattle.automata.specs.ConfigurationGraph.{rows, atoms}
+use Rattle.automata.specs.ConfigurationGraph.{rows}
+use Rattle.automata.specs.Answers.{holding}
 use Rattle.automata.proofs.Equivariance.{inside→}
 use Rattle.automata.proofs.Numbering.{configurations-length, rows-length}
 use Rattle.automata.proofs.ClassBisimulation.{related-below}
@@ -30,7 +30,7 @@ use Rattle.lists.proofs.Arrays.{length-filled, filled-at, filled-out}
 use Rattle.sets.proofs.Laws.{packed-low}
 use Rattle.formulas.specs.Rows.{words, shown}
 use Rattle.formulas.proofs.FrontierRounds.{member-words}
-use Rattle.formulas.proofs.RowSets.{sat-length}
+use Rattle.formulas.proofs.RowSets.{holding-length}
 use Rattle.formulas.proofs.Buffer.{shown-row, held-formula}
 use Rattle.reach.proofs.StepGraph.{graph-fits}
 use Rattle.claims.specs.Truth.{RowsClaim}
@@ -52,19 +52,16 @@ filled-kept ws f n = (
 )
 
 module _ (a : Automaton) (rs : List Row) (ws : List ℕ) (long : 10784 ≤ length ws) where
-  abbrev holding : Formula Atom → List Bool
-  holding = sat (rows a) (atoms a)
-
   -- bit c of row j, counted from 0
-  bit-shown : (j c : ℕ) → j < 32 → c < 10784 → member (shown a (rowFormulas rs) ws) (10784 * j + c) ≡ getD (getD (map holding (rowFormulas rs)) j []) c false
+  bit-shown : (j c : ℕ) → j < 32 → c < 10784 → member (shown a (rowFormulas rs) ws) (10784 * j + c) ≡ getD (getD (map (holding a) (rowFormulas rs)) j []) c false
   bit-shown j c h k =
-      let s : List Bool = getD (map holding (rowFormulas rs)) j [] in
+      let s : List Bool = getD (map (holding a) (rowFormulas rs)) j [] in
       row-member (shown a (rowFormulas rs) ws) j c k ∙ ap (λ (l : List ℕ). member l c) (shown-row a ws long (rowFormulas rs) (shown a (rowFormulas rs) ws) j h refl)
       ∙ member-words s c k
 
   -- bit c of row i of the question, counted from 1
   bit-row : (i c : ℕ) → 1 ≤ i → i ≤ length rs → i ≤ 32 → c < 10784
-      → member (shown a (rowFormulas rs) ws) (10784 * pred i + c) ≡ getD (holding (rowOf (rowFormulas rs) i)) c false
+      → member (shown a (rowFormulas rs) ws) (10784 * pred i + c) ≡ getD (holding a (rowOf (rowFormulas rs) i)) c false
   bit-row i c low high h k =
       bit-shown (pred i) c (omega arith) k
       ∙ ap (λ (s : List Bool). getD s c false) (held-formula a (rowFormulas rs) i low (omega (arith, formulas-length [] rs)))
@@ -74,26 +71,26 @@ module _ (a : Automaton) (rs : List Row) (ws : List ℕ) (long : 10784 ≤ lengt
   bit-past i c low h past k =
       bit-shown (pred i) c (omega arith) k
       ∙ ap (λ (s : List Bool). getD s c false)
-      (List·getD-eq-default (map holding (rowFormulas rs)) [] {n = pred i} (omega (arith, length-map (rowFormulas rs) holding, formulas-length [] rs)))
+      (List·getD-eq-default (map (holding a) (rowFormulas rs)) [] {n = pred i} (omega (arith, length-map (rowFormulas rs) (holding a), formulas-length [] rs)))
 
   -- a bit past the configurations
   bit-none : (i c : ℕ) → 1 ≤ i → i ≤ length rs → i ≤ 32 → length (rows a) ≤ c → c < 10784 → member (shown a (rowFormulas rs) ws) (10784 * pred i + c) ≡ false
   bit-none i c low high h past k =
       let f : Formula Atom = rowOf (rowFormulas rs) i in
-      bit-row i c low high h k ∙ List·getD-eq-default (holding f) false {n = c} (omega (arith, sat-length a f))
+      bit-row i c low high h k ∙ List·getD-eq-default (holding a f) false {n = c} (omega (arith, holding-length a f))
 
   -- words of 32 bits, and what stands behind them
   shown-low : (i : ℕ) → i < 10784 → getD (shown a (rowFormulas rs) ws) i 0 < 2 ^ 32
   unfolding shown words
   shown-low i h =
-      let s : List Bool = getD (map holding (rowFormulas rs)) (i / 337) [] in
-      let f : ℕ → ℕ = λ j. getD (words (getD (map holding (rowFormulas rs)) (j / 337) [])) (j % 337) 0 in
+      let s : List Bool = getD (map (holding a) (rowFormulas rs)) (i / 337) [] in
+      let f : ℕ → ℕ = λ j. getD (words (getD (map (holding a) (rowFormulas rs)) (j / 337) [])) (j % 337) 0 in
       let e : 0 + i ≡ i = omega arith in
       subst (λ k. getD (filled ws 0 f 10784) k 0 < 2 ^ 32) e (subst⁻¹ (λ x. x < 2 ^ 32) (filled-at ws 0 f 10784 i long h) (packed-low (λ c. getD s c false) 337 (i % 337) (omega arith)))
 
   shown-kept : Kept 10784 ws (shown a (rowFormulas rs) ws)
   unfolding shown
-  shown-kept = filled-kept ws (λ j. getD (words (getD (map holding (rowFormulas rs)) (j / 337) [])) (j % 337) 0) 10784
+  shown-kept = filled-kept ws (λ j. getD (words (getD (map (holding a) (rowFormulas rs)) (j / 337) [])) (j % 337) 0) 10784
 
 -- what the words of a question's rows say of steps with real identifiers is so
 pub rows-right : (a : Automaton) → T (wellFormed a) → T (limited a) → (rs : List Row) → T (fitsQuestion a rs) → (ws : List ℕ) → 10784 ≤ length ws → RowsClaim a rs ws (shown a (rowFormulas rs) ws)

@@ -17,7 +17,7 @@ use Rattle.automata.specs.Questions.{question}
 use Rattle.automata.specs.ConfigurationGraph.{rows, starts}
 use Rattle.automata.specs.WellFormed.{limited}
 use Rattle.automata.specs.Answers.{nearestTo, failing}
-use Rattle.automata.specs.Examples.{sample, loose, delivered, deliveredByOne}
+use Rattle.automata.specs.Examples.{sample, loose, stopped, delivered, deliveredByOne}
 use Rattle.automata.specs.Questions.Atom.{at, equal}
 use Rattle.grammar.specs.Grammar.{Question, TextFile, formulaOf, rowsFrom, digits}
 use Rattle.grammar.specs.Grammar.Temporal.{G}
@@ -34,7 +34,7 @@ use Rattle.reach.proofs.StepGraph.{graph-fits}
 use Rattle.witness.specs.Printed.{reachedCount}
 use Rattle.witness.proofs.SampleRun.{sample-count}
 use Rattle.writing.specs.Said.{TableFile, TargetFile}
-use Rattle.writing.proofs.Sample.{sample-says, loose-says, delivered-says, delivered-by-one-says, loose-by-one-says, always-says, inevitable-says, alwaysRows, inevitableRows, largestSample, largest-says, largest-delivered-says, largest-always-says}
+use Rattle.writing.proofs.Sample.{sample-says, loose-says, delivered-says, delivered-by-one-says, loose-by-one-says, stopped-says, always-says, inevitable-says, stopped-inevitable-says, alwaysRows, waitingRows, inevitableRows, largestSample, largest-says, largest-delivered-says, largest-waiting-says}
 use Rattle.claims.specs.Files.{targetFiles}
 use Rattle.claims.specs.ReachReply.{foundReply, reachReply}
 use Rattle.claims.specs.AskReply.{askedReply}
@@ -56,13 +56,18 @@ unreached : nearestTo sample deliveredByOne ≡ none
 unfolding flatMap
 unreached = refl
 
-always-fails : failing sample (question alwaysRows) ≡ some 0
+always-holds : failing sample (question alwaysRows) ≡ none
 unfolding flatMap zipWith
-always-fails = refl
+always-holds = refl
 
 inevitable-holds : failing sample (question inevitableRows) ≡ none
 unfolding flatMap zipWith
 inevitable-holds = refl
+
+-- a segment that is stuck at place 2 never comes to place 3
+stopped-fails : failing stopped (question inevitableRows) ≡ some 0
+unfolding flatMap zipWith
+stopped-fails = refl
 
 -- with the two largest identifiers
 abbrev largestWalk : Walk
@@ -76,7 +81,7 @@ largest-found : found largestSample ≡ start 1 ∷ start 1 ▸ 13 ∷ start 1 �
 unfolding found flatMap
 largest-found = refl
 
-largest-fails : failing largestSample (question alwaysRows) ≡ some 1
+largest-fails : failing largestSample (question waitingRows) ≡ some 1
 unfolding flatMap zipWith
 largest-fails = refl
 
@@ -107,9 +112,10 @@ samples-hold c m =
     ⊎-elim (λ e. subst⁻¹ Shows e (shown _ _ sample delivered walk 2 3 _ _ sample-says delivered-says sample-walk (ap (Reached 2) sample-count) refl refl))
     (λ m. ⊎-elim (λ e. subst⁻¹ Shows e (reach-reply _ _ sample deliveredByOne sample-says delivered-by-one-says ∙ ap (foundReply sample) unreached ∙ ap Never sample-count))
     (λ m. ⊎-elim (λ e. subst⁻¹ Shows e (shown _ _ loose deliveredByOne looseWalk 2 5 _ _ loose-says loose-by-one-says loose-walk (ap (Reached 2) (found-count loose tt _ loose-found)) refl refl))
-    (λ m. ⊎-elim (λ e. subst⁻¹ Shows e (ask-reply inRows _ _ sample _ alwaysRows sample-says (always-says, refl) ∙ ap (askedReply sample) always-fails))
+    (λ m. ⊎-elim (λ e. subst⁻¹ Shows e (ask-reply inRows _ _ sample _ alwaysRows sample-says (always-says, refl) ∙ ap (askedReply sample) always-holds))
     (λ m. ⊎-elim (λ e. subst⁻¹ Shows e (ask-reply inRows _ _ sample _ inevitableRows sample-says (inevitable-says, refl) ∙ ap (askedReply sample) inevitable-holds))
+    (λ m. ⊎-elim (λ e. subst⁻¹ Shows e (ask-reply inRows _ _ stopped _ inevitableRows stopped-says (stopped-inevitable-says, refl) ∙ ap (askedReply stopped) stopped-fails))
     (λ m. ⊎-elim (λ e. subst⁻¹ Shows e (ask-reply inText _ _ sample (formulaOf neverByOne) (rowsFrom 0 neverByOne) sample-says (neverByOne, never-by-one-says, refl, refl) ∙ ap (askedReply sample) never-by-one-holds))
     (λ m. ⊎-elim (λ e. subst⁻¹ Shows e (shown _ _ largestSample delivered largestWalk 2 6 _ _ largest-says largest-delivered-says largest-walk (ap (Reached 2) (found-count largestSample tt _ largest-found)) refl refl))
-    (λ m. ⊎-elim (λ e. subst⁻¹ Shows e (ask-reply inRows _ _ largestSample _ alwaysRows largest-says (largest-always-says, refl) ∙ ap (askedReply largestSample) largest-fails))
-    (λ m. absurd (List·Memᴰ·not-nil m)) (List·Memᴰ·cases-cons m)) (List·Memᴰ·cases-cons m)) (List·Memᴰ·cases-cons m)) (List·Memᴰ·cases-cons m)) (List·Memᴰ·cases-cons m)) (List·Memᴰ·cases-cons m)) (List·Memᴰ·cases-cons m)) (List·Memᴰ·cases-cons m)
+    (λ m. ⊎-elim (λ e. subst⁻¹ Shows e (ask-reply inRows _ _ largestSample _ waitingRows largest-says (largest-waiting-says, refl) ∙ ap (askedReply largestSample) largest-fails))
+    (λ m. absurd (List·Memᴰ·not-nil m)) (List·Memᴰ·cases-cons m)) (List·Memᴰ·cases-cons m)) (List·Memᴰ·cases-cons m)) (List·Memᴰ·cases-cons m)) (List·Memᴰ·cases-cons m)) (List·Memᴰ·cases-cons m)) (List·Memᴰ·cases-cons m)) (List·Memᴰ·cases-cons m)) (List·Memᴰ·cases-cons m)

@@ -3,7 +3,8 @@ pub mod PackedSets
 pub mod StoredSteps
 pub mod FrontierRounds
 pub mod Tables
-pub mod DeadEnds
+pub mod CutOff
+pub mod StayRounds
 pub mod RowSets
 pub mod Buffer
 pub mod Atoms

@@ -245,13 +245,18 @@ pub upFrom-mem : (i n : ℕ) {x : ℕ} → List·Memᴰ x (upFrom i n) → (i �
 upFrom-mem i (suc n) (List·Memᴰ·head e) = omega arith
 upFrom-mem i (suc n) (List·Memᴰ·tail m) = let (h, h′) = upFrom-mem (suc i) n m in omega arith
 
--- functions that agree on them, and how many values there are
+-- functions that agree on them, how many values there are, and which
 pub upFrom-agree : {A : Type 0} (f g : ℕ → A) (i n : ℕ) → ((j : ℕ) → i ≤ j → j < i + n → f j ≡ g j) → map f (upFrom i n) ≡ map g (upFrom i n)
 upFrom-agree f g i zero h = refl
 upFrom-agree f g i (suc n) h = cc (h i (omega arith) (omega arith), upFrom-agree f g (suc i) n (λ j k l. h j (omega arith) (omega arith)))
 
 pub upFrom-values : {A : Type 0} (f : ℕ → A) (i n : ℕ) → length (map f (upFrom i n)) ≡ n
 upFrom-values f i n = length-map (upFrom i n) f ∙ upFrom-length i n
+
+pub upFrom-value : {A : Type 0} (f : ℕ → A) (n j : ℕ) (d : A) → j < n → getD (map f (upFrom 0 n)) j d ≡ f j
+upFrom-value f n j d h =
+    let e : 0 + j ≡ j = omega arith in
+    getD-map f (upFrom 0 n) j 0 d (omega (arith, upFrom-length 0 n)) ∙ ap f (upFrom-getD 0 n j h ∙ e)
 
 -- what the least number is that passes a test
 abbrev pub Least : (ℕ → Bool) → ℕ → ℕ → Option ℕ → Type 0

@@ -1,4 +1,4 @@
-// Tries the examples of document 01 that carry no star, and random cases with the independent engine's results: for each group prints how many cases had which reply, and how many differ from the engine's.
+// Tries the examples of document 01 that carry no star, some of document 02, and random cases with the independent engine's results: for each group prints how many cases had which reply, and how many differ from the engine's.
 // Of each case: reaching, asking by rows and by text, and replaying, with buffers of the length asked or a little longer; the three C functions; reaching and asking with a buffer that is one number too short.
 // All of each reply is compared, and all of each lent buffer; the number of registers that a no gives with the table's.
 use checker::Refusal;

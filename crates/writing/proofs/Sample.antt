@@ -1,4 +1,4 @@
--- The sample's bytes say the automata, targets and questions of the starred examples, and the sample of the two largest identifiers.
+-- The sample's bytes say the automata, targets and questions of the starred examples, the sample that stops, and that of the two largest identifiers.
 -- Assumes nothing.
 use mathlib.Core.List.{List, [], _∷_}
 use mathlib.Core.Path.{refl}
@@ -8,9 +8,9 @@ use Rattle.columns.specs.Widths.{width}
 use Rattle.automata.specs.Questions.{Row, row}
 use Rattle.automata.specs.Automaton.{Automaton}
 use Rattle.automata.specs.Automaton.Term.{register, constant}
-use Rattle.automata.specs.Examples.{_equals_, sample, loose, delivered, deliveredByOne}
+use Rattle.automata.specs.Examples.{_equals_, sample, loose, stopped, delivered, deliveredByOne}
 use Rattle.writing.specs.Said.{TableFile, TargetFile, QuestionFile}
-use Rattle.writing.specs.Sample.{sampleBytes, looseBytes, largestBytes, deliveredBytes, deliveredByOneBytes, alwaysBytes, inevitableBytes}
+use Rattle.writing.specs.Sample.{sampleBytes, looseBytes, stoppedBytes, largestBytes, deliveredBytes, deliveredByOneBytes, alwaysBytes, waitingBytes, inevitableBytes}
 
 pub sample-says : TableFile sampleBytes sample
 unfolding columnOf width
@@ -19,6 +19,10 @@ sample-says = record { written = refl; fits = tt; small = tt; issued = tt; start
 pub loose-says : TableFile looseBytes loose
 unfolding columnOf width
 loose-says = record { written = refl; fits = tt; small = tt; issued = tt; start = (0 ∷ 0 ∷ [], tt) }
+
+pub stopped-says : TableFile stoppedBytes stopped
+unfolding columnOf width
+stopped-says = record { written = refl; fits = tt; small = tt; issued = tt; start = (0 ∷ 0 ∷ [], tt) }
 
 -- the sample of the two largest identifiers
 abbrev pub largestSample : Automaton
@@ -57,6 +61,9 @@ loose-by-one-says = record { written = refl; fits = tt; few = omega arith }
 abbrev pub alwaysRows : List Row
 alwaysRows = row 2 1 1 ∷ row 8 1 0 ∷ []
 
+abbrev pub waitingRows : List Row
+waitingRows = row 1 1 0 ∷ row 8 1 0 ∷ []
+
 abbrev pub inevitableRows : List Row
 inevitableRows = row 1 3 0 ∷ row 14 1 0 ∷ []
 
@@ -64,10 +71,14 @@ pub always-says : QuestionFile sample alwaysBytes alwaysRows
 unfolding columnOf width
 always-says = record { written = refl; fits = tt }
 
-pub largest-always-says : QuestionFile largestSample alwaysBytes alwaysRows
+pub largest-waiting-says : QuestionFile largestSample waitingBytes waitingRows
 unfolding columnOf width
-largest-always-says = record { written = refl; fits = tt }
+largest-waiting-says = record { written = refl; fits = tt }
 
 pub inevitable-says : QuestionFile sample inevitableBytes inevitableRows
 unfolding columnOf width
 inevitable-says = record { written = refl; fits = tt }
+
+pub stopped-inevitable-says : QuestionFile stopped inevitableBytes inevitableRows
+unfolding columnOf width
+stopped-inevitable-says = record { written = refl; fits = tt }

@@ -10,7 +10,10 @@
 //! replaying: reply (0 bad, 1 good, 2 refused), then the bad moment; where refused number, file and line.
 //! Other fields are 0.
 
-use super::{concat_lines, digits, fresh_data, header, random_for, report, sample_table, sample_without, titles};
+use super::{
+    concat_lines, digits, fresh_data, header, partly_stuck, random_for, report, sample_stopped, sample_table,
+    sample_without, titles,
+};
 use crate::answer::{ask, ask_text, reach, Asked, Reached};
 use crate::counter::{counter, falling};
 use crate::generate::{case, Shape};
@@ -217,7 +220,7 @@ fn widest(random: &mut Random, set: usize) -> Files {
     }
 }
 
-/// The longest run of the counters, and the question that takes 10,784 rounds.
+/// The longest run of the counters, and the question that takes 10,783 rounds.
 fn longest(seed: u64) -> Vec<Files> {
     let mut random = random_for(seed, 9, 1);
     let (table, target) = counter(&mut random, 5, 15, true);
@@ -229,12 +232,11 @@ fn longest(seed: u64) -> Vec<Files> {
         text: b"AGEFL1".to_vec(),
         list: vec![0, 0, 0, 0, 0],
     };
-    let (table, target) = falling();
-    let endless = [(2, 1, 1), (8, 1, 0)];
+    let (table, target, question) = falling();
     let falling = Files {
         table: write::table(&table),
         target: write::target(&target),
-        question: write::question(&endless.map(|(kind, a, b)| Row { kind, a, b })),
+        question: write::question(&question),
         // Once is enough.
         text: b"EXr1=r1".to_vec(),
         list: vec![0, 0, 0, 0, 0],
@@ -311,8 +313,8 @@ fn line(numbers: &[usize]) -> String {
     crate::print::fields(numbers)
 }
 
-/// Document 01's examples that carry no star, some that do, and its habits to lose, each with what the document says of
-/// the replies: the first fields of reaching and of asking.
+/// Document 01's examples that carry no star, some that do, and its habits to lose, then document 02's, each with what
+/// the documents say of the replies: the first fields of reaching and of asking.
 fn examples() -> Vec<Files> {
     let sample = sample_table();
     let loose = sample_without(&[8, 1, 1, 1]);
@@ -354,13 +356,13 @@ fn examples() -> Vec<Files> {
     let third = || line(&[4, 3]).into_bytes();
     let inevitable = || asked(&[&[1, 3, 0], &[14, 1, 0]], "AFL3");
     add(good(sample.clone(), third(), inevitable()), &[1, 2, 3], yes, yes);
-    // With registers equal: never; without line 8 1 1 1 two steps. EG of register 1 = register 1: no.
+    // With registers equal: never; without line 8 1 1 1 two steps. EG of register 1 = register 1: yes, by document 02.
     let equal = concat_lines(&[&[4, 3], &[5, 1, 1, 1, 1, 2]]);
     let endless = || asked(&[&[2, 1, 1], &[8, 1, 0]], "EGr1=r1");
-    add(good(sample.clone(), equal.clone(), endless()), &[0], no, no);
+    add(good(sample.clone(), equal.clone(), endless()), &[0], yes, yes);
     let ends = reach(&loose, &equal, None).map(|a| a.run[a.run.len() - 5..].to_vec());
     assert_eq!(ends, Ok(vec![2, 2, 0, 0, 0]));
-    add(good(loose.clone(), equal.clone(), endless()), &[1, 2], no, no);
+    add(good(loose.clone(), equal.clone(), endless()), &[1, 2], yes, yes);
     // A run of 0 steps.
     add(good(sample.clone(), target(0), rows(1)), pass, yes, yes);
     // 5 registers pass, 6 are 3.
@@ -394,8 +396,8 @@ fn examples() -> Vec<Files> {
         &[5, 1, 1, 1, 3, 1],
         &[6, 1, 1, 2],
     ]);
-    add(good(unset, other.clone(), endless()), &[1, 1], no, no);
-    // A register that holds no constant does not equal one: no step, EG is false there and AF true.
+    add(good(unset, other.clone(), endless()), &[1, 1], yes, yes);
+    // A register that holds no constant does not equal one: no step, so the segment stays. EG is true there and AF false.
     let apart = concat_lines(&[
         &[1, 1, 1, 2, 1, 1],
         &[2, 0],
@@ -406,8 +408,8 @@ fn examples() -> Vec<Files> {
         &[7, 1, 1, 1, 3, 1],
     ]);
     let always = || asked(&[&[1, 2, 0], &[14, 1, 0]], "AFL2");
-    add(good(apart.clone(), other.clone(), endless()), &[0, 0], no, no);
-    add(good(apart, other, always()), &[0, 0], yes, yes);
+    add(good(apart.clone(), other.clone(), endless()), &[0, 0], yes, yes);
+    add(good(apart, other, always()), &[0, 0], &[0, 1], &[0, 1]);
     // A stored parameter, then a fresh one.
     let both = concat_lines(&[
         &[1, 1, 0, 3, 1, 2],
@@ -461,6 +463,80 @@ fn examples() -> Vec<Files> {
         let (reached, asked) = refused.as_ref().map_or((pass, yes), |r| (&r[..], &r[..]));
         add(good(constants(lines), target(0), rows(1)), reached, asked, asked);
     }
+    // Where no step exists the segment stays, for questions. Other contents than the constant are stuck at a place with an
+    // arc: they stay there, at the start of class 1, and the constant does not.
+    let second = || line(&[4, 2]).into_bytes();
+    let (constant, other): (&[u64], &[u64]) = (&[0, 0], &[0, 1]);
+    for (question, reply) in [
+        // Every row kind that speaks of steps, of places 1 and 2, of none and of all.
+        (
+            asked(
+                &[
+                    &[1, 1, 0],
+                    &[1, 2, 0],
+                    &[5, 1, 2],
+                    &[4, 3, 0],
+                    &[6, 1, 0],
+                    &[6, 2, 0],
+                    &[6, 3, 0],
+                    &[6, 4, 0],
+                    &[8, 1, 0],
+                    &[8, 2, 0],
+                    &[8, 3, 0],
+                    &[8, 4, 0],
+                    &[11, 1, 0],
+                    &[11, 2, 0],
+                    &[11, 3, 0],
+                    &[11, 4, 0],
+                    &[14, 1, 0],
+                    &[14, 2, 0],
+                    &[14, 3, 0],
+                    &[14, 4, 0],
+                    &[7, 1, 2],
+                    &[12, 2, 0],
+                    &[13, 1, 0],
+                    &[10, 9, 23],
+                ],
+                "(EGL1>AGL1)",
+            ),
+            yes,
+        ),
+        (always(), other),
+        (asked(&[&[1, 2, 0], &[6, 1, 0]], "EXL2"), other),
+        (asked(&[&[1, 1, 0], &[6, 1, 0]], "EXL1"), constant),
+        (asked(&[&[1, 1, 0], &[8, 1, 0]], "EGL1"), constant),
+        (asked(&[&[2, 1, 1], &[6, 1, 0]], "EXr1=r1"), yes),
+        (
+            asked(&[&[3, 1, 1], &[4, 1, 0], &[11, 1, 0], &[10, 2, 3]], "(!r1=c1>AXr1=c1)"),
+            other,
+        ),
+    ] {
+        add(good(partly_stuck(), second(), question), &[1, 1, 3], reply, reply);
+    }
+    // An arc that can never be met counts for nothing: the segment stays at place 1.
+    for never in [
+        line(&[7, 1, 1, 2, 1, 1]),
+        line(&[7, 2, 1, 1, 1, 1]) + &line(&[7, 2, 1, 2, 1, 1]),
+        line(&[7, 2, 1, 1, 3, 1]) + &line(&[7, 2, 1, 1, 3, 2]),
+    ] {
+        let head = concat_lines(&[
+            &[1, 1, 2, 2, 1, 1],
+            &[2, 0],
+            &[2, 7],
+            &[3, 1],
+            &[4, 1],
+            &[5, 1, 1, 2, 3, 1],
+            &[6, 1, 1, 2],
+        ]);
+        let table = [head, never.into_bytes(), line(&[8, 1, 1, 1]).into_bytes()].concat();
+        let remains = asked(&[&[1, 1, 0], &[8, 1, 0], &[11, 2, 0]], "AXEGL1");
+        add(good(table.clone(), second(), remains), &[0, 0, 2], yes, yes);
+        add(good(table, second(), always()), &[0, 0, 2], other, other);
+    }
+    // The sample without its second arc stops at place 2, and goes on from place 1.
+    let remains = asked(&[&[1, 2, 0], &[8, 1, 0], &[14, 2, 0]], "AFEGL2");
+    add(good(sample_stopped(), third(), remains), &[0, 0, 2], yes, yes);
+    add(good(sample_stopped(), third(), inevitable()), &[0, 0, 2], no, no);
     found
 }
 

@@ -7,7 +7,7 @@
 //! that takes start and steps: a list that is too short for a start has zeros behind it, and numbers behind the last
 //! whole step are left out. A reply is four numbers: 1 good; 0 and the first bad moment; or 2 and those of the refusal.
 
-use super::{concat_lines, digits, fresh_data, header, random_for, report, sample_table};
+use super::{concat_lines, digits, fresh_data, header, partly_stuck, random_for, report, sample_table};
 use crate::generate::{case, Shape};
 use crate::mutate::mutate;
 use crate::print::fields;
@@ -153,6 +153,18 @@ fn largest_cases() -> Vec<Case> {
     ]
 }
 
+/// A stay where no step exists, as arc 0 with nothing changed: only questions see it, so it is bad. Behind the sample's run,
+/// and at a start that is stuck at a place with an arc; there with that arc too, and the start alone.
+fn stay_cases() -> Vec<Case> {
+    let (translated, revised) = (step(1, 1, [1, 0]), step(2, 2, [1, 2]));
+    let run = [vec![0; 5], translated, revised, step(0, 0, [1, 2])].concat();
+    let mut found = vec![plain(sample_table(), run)];
+    for steps in [vec![], step(0, 0, [5, 0]), step(1, 5, [5, 0])] {
+        found.push(plain(partly_stuck(), [vec![5, 0, 0, 0, 0], steps].concat()));
+    }
+    found
+}
+
 /// Random tables with a walk or the shortest run, some with a wrong number.
 fn random_cases(seed: u64) -> Vec<Case> {
     let mut found = Vec::new();
@@ -219,7 +231,13 @@ fn refused_cases(seed: u64) -> Vec<Case> {
 pub fn write(folder: &Path, seed: u64) -> io::Result<()> {
     let data = fresh_data(folder)?;
     let (mut bytes, mut text) = (Vec::new(), String::new());
-    let cases = [sample_cases(), random_cases(seed), refused_cases(seed), largest_cases()];
+    let cases = [
+        sample_cases(),
+        random_cases(seed),
+        refused_cases(seed),
+        largest_cases(),
+        stay_cases(),
+    ];
     for (i, c) in cases.iter().flatten().enumerate() {
         let mut table = c.table.clone();
         table.resize(c.length, 10);

@@ -17,7 +17,7 @@ use crate::mutate::mutate;
 use crate::print::digest;
 use crate::random::Random;
 use crate::read::{read_table, Refusal};
-use crate::trials::sample_table;
+use crate::trials::{partly_stuck, sample_table};
 use crate::write;
 use std::fs;
 use std::io;
@@ -222,6 +222,8 @@ fn by_counts(seed: u64) -> Vec<Case> {
         }
     }
     found.push(valid(&mut random_for(seed, 31, 1), sample_table(), 21));
+    // Only questions see a stuck segment stay: no step leads from its configuration.
+    found.push(valid(&mut random_for(seed, 31, 2), partly_stuck(), 4));
     found
 }
 
