@@ -1,17 +1,18 @@
 -- A state is stuck exactly if no transition from its location has a guard that is met with any parameters: whatever is assigned, some new contents hold it.
 -- Assumes nothing.
 use Prim.Native.Nat.{ℕ, suc, pred, _≤_, _<_}
-use mathlib.Core.List.{List, [], _∷_, map, List·Memᴰ}
+use mathlib.Core.List.{List, [], _∷_, map, List·Memᴰ, List·Memᴰ·head, List·Memᴰ·tail}
 use mathlib.Core.Logic.{_↔_}
 use mathlib.Core.Path.{_≡_, refl, ap₂, _∙_}
 use native.Mathlib.Omega.{arith}
-use lib.Dec.{T, eqb→eq, ltb, ltb→lt, lt→ltb}
-use lib.Ieee.Fits.{and-i, and-l, and-r, eq→eqb}
+use lib.Dec.{T, eqb→eq}
+use lib.Ieee.Fits.{and-l, and-r, eq→eqb}
 use lib.ListN.{length, set, length-set}
 use lib.Seq.{getD-set-same, getD-set-other}
 use Rattle.graphs.specs.Lists.{allOf}
 use Rattle.graphs.proofs.Lists.{and-elim, mem-getD}
 use Rattle.classes.specs.Renaming.{rising}
+use Rattle.classes.proofs.Renamings.{rising-above, rising-tail}
 use Rattle.automata.specs.Automaton.{Assignment, Transition, Automaton, arity, value, meets}
 use Rattle.automata.specs.Runs.{State, Move, Step, transitionOf, nowhere, after}
 use Rattle.automata.specs.Questions.{Stuck}
@@ -21,19 +22,12 @@ use Rattle.automata.proofs.Equivariance.{inside→}
 use Rattle.automata.proofs.StepClasses.{makes-few, makes-guard, makes-intro}
 use Rattle.automata.proofs.ClassBisimulation.{wf-transition, move-transition, move-makes, move-from, move-steps}
 
-rising-skip : (b c : ℕ) (xs : List ℕ) → T (rising (b ∷ c ∷ xs)) → T (rising (b ∷ xs))
-rising-skip b c [] t = tt
-rising-skip b c (x ∷ xs) t =
-    let (h, r) = and-elim (ltb b c) (rising (c ∷ x ∷ xs)) t in
-    let (k, q) = and-elim (ltb c x) (rising (x ∷ xs)) r in
-    and-i (ltb b x) (rising (x ∷ xs)) (lt→ltb b x (omega (arith, ltb→lt b c h, ltb→lt c x k))) q
-
 -- a value stored below the registers of these assignments changes none of them
-held-below : (o : List ℕ) (b x : ℕ) (ss : List Assignment) → 1 ≤ b → T (rising (b ∷ map (λ s. s .register) ss)) → held (set o (pred b) x) ss ≡ held o ss
-held-below o b x [] low t = refl
-held-below o b x (s ∷ ss) low t =
-    let l : b < s .register = ltb→lt b (s .register) (and-l (ltb b (s .register)) (rising (s .register ∷ map (λ s. s .register) ss)) t) in
-    ap₂ _∷_ (getD-set-other o (pred b) (pred (s .register)) x 0 (λ e. omega arith)) (held-below o b x ss low (rising-skip b (s .register) (map (λ s. s .register) ss) t))
+held-below : (o : List ℕ) (b x : ℕ) (ss : List Assignment) → 1 ≤ b → ((y : ℕ) → List·Memᴰ y (map (λ s. s .register) ss) → b < y) → held (set o (pred b) x) ss ≡ held o ss
+held-below o b x [] low above = refl
+held-below o b x (s ∷ ss) low above =
+    let l : b < s .register = above (s .register) (List·Memᴰ·head refl) in
+    ap₂ _∷_ (getD-set-other o (pred b) (pred (s .register)) x 0 (λ e. omega arith)) (held-below o b x ss low (λ y m. above y (List·Memᴰ·tail m)))
 
 module _ (cs v ps : List ℕ) (n : ℕ) where
   -- the old contents, with what is written in the registers that are assigned
@@ -53,11 +47,7 @@ module _ (cs v ps : List ℕ) (n : ℕ) where
       let (here, rest) = and-elim (fitsAssignment (length cs) (length v) n s) (allOf (fitsAssignment (length cs) (length v) n) ss) f in
       let (low, high) = inside→ (length v) (s .register) (and-l (inside (length v) (s .register)) (fitsTerm (length cs) (length v) n (s .source)) here) in
       ap₂ _∷_ (getD-set-same (stored ss) (pred (s .register)) (value cs v ps (s .source)) 0 (omega (arith, stored-length ss)))
-      (held-below (stored ss) (s .register) (value cs v ps (s .source)) ss low t ∙ stored-held ss rest (later ss t))
-    where
-      later : (ss : List Assignment) → T (rising (s .register ∷ map (λ s. s .register) ss)) → T (rising (map (λ s. s .register) ss))
-      later [] u = tt
-      later (r ∷ rs) u = and-r (ltb (s .register) (r .register)) (rising (r .register ∷ map (λ s. s .register) rs)) u
+      (held-below (stored ss) (s .register) (value cs v ps (s .source)) ss low (rising-above (s .register) (map (λ s. s .register) ss) t) ∙ stored-held ss rest (rising-tail (s .register) (map (λ s. s .register) ss) t))
 
 module _ (a : Automaton) (wf : T (wellFormed a)) (s : State) (p : Proper a s) where
   -- the transition leaves the state's location, and its guard is met with these parameters

@@ -1,16 +1,17 @@
 -- The formulas of a question's rows: a row's formula does not change by what follows, and rows that fit make formulas that fit.
 -- Assumes nothing.
-use Prim.Native.Nat.{ℕ, zero, suc, pred, _+_, _<_}
+use Prim.Native.Nat.{ℕ, zero, suc, pred, _+_}
 use mathlib.Core.Bool.{true, _&&_}
 use mathlib.Core.List.{List, [], _∷_, _++_}
-use mathlib.Core.Path.{_≡_, refl, _∙_}
+use mathlib.Core.Path.{_≡_, _∙_}
 use native.Mathlib.Omega.{arith}
 use lib.Dec.{T}
 use lib.Ieee.Fits.{and-i, and-l, and-r}
-use lib.ListN.{length, getD, length-append, List·getD-append}
+use lib.ListN.{length, getD, length-append}
 use Rattle.graphs.specs.Lists.{allOf}
 use Rattle.graphs.specs.Formulas.{Formula}
 use Rattle.graphs.specs.Formulas.Formula.{truth}
+use Rattle.graphs.proofs.Lists.{allOf-append}
 use Rattle.automata.specs.Automaton.{Automaton}
 use Rattle.automata.specs.Questions.{Atom, Row, Kind, kinds, rowOf, rowFormula, formulasFrom, rowFormulas}
 use Rattle.automata.specs.Questions.Use.{rowNumber, unused}
@@ -27,12 +28,6 @@ fits-at : (a : Automaton) (fs : List (Formula Atom)) (i : ℕ) → T (allOf (fit
 fits-at a [] i t = tt
 fits-at a (f ∷ fs) zero t = and-l (fitsFormula a f) (allOf (fitsFormula a) fs) t
 fits-at a (f ∷ fs) (suc i) t = fits-at a fs i (and-r (fitsFormula a f) (allOf (fitsFormula a) fs) t)
-
-fits-append : (a : Automaton) (fs : List (Formula Atom)) (f : Formula Atom) → T (allOf (fitsFormula a) fs) → T (fitsFormula a f) → T (allOf (fitsFormula a) (fs ++ (f ∷ [])))
-fits-append a [] f t u = and-i (fitsFormula a f) true u tt
-fits-append a (g ∷ fs) f t u =
-    and-i (fitsFormula a g) (allOf (fitsFormula a) (fs ++ (f ∷ []))) (and-l (fitsFormula a g) (allOf (fitsFormula a) fs) t)
-    (fits-append a fs f (and-r (fitsFormula a g) (allOf (fitsFormula a) fs) t) u)
 
 module _ (a : Automaton) (n : ℕ) where
   -- a kind makes a formula that fits of fields that fit and formulas that fit
@@ -74,7 +69,7 @@ fits-formulas a fs (r ∷ rs) t u =
     let e : length (fs ++ (rowFormula fs r ∷ [])) ≡ suc (length fs) = length-append fs (rowFormula fs r ∷ []) ∙ omega arith in
     let v : T (fitsRow a (length fs) r) = and-l (fitsRow a (length fs) r) (fitsRows a (suc (length fs)) rs) u in
     let w : T (fitsRows a (suc (length fs)) rs) = and-r (fitsRow a (length fs) r) (fitsRows a (suc (length fs)) rs) u in
-    fits-formulas a (fs ++ (rowFormula fs r ∷ [])) rs (fits-append a fs (rowFormula fs r) t (fits-row a (length fs) fs r t v)) (rw e w)
+    fits-formulas a (fs ++ (rowFormula fs r ∷ [])) rs (allOf-append (fitsFormula a) fs (rowFormula fs r ∷ []) t (and-i (fitsFormula a (rowFormula fs r)) true (fits-row a (length fs) fs r t v) tt)) (rw e w)
 
 -- so every row of a question, and the question itself, is a formula that fits
 pub question-fits : (a : Automaton) (rs : List Row) → T (fitsQuestion a rs) → (i : ℕ) → T (fitsFormula a (rowOf (rowFormulas rs) i))

@@ -22,7 +22,8 @@ use Rattle.automata.specs.WellFormed.{wellFormed, Proper}
 use Rattle.automata.specs.FormulaFits.{fitsFormula}
 use Rattle.automata.specs.Configurations.{conf, number, Related}
 use Rattle.automata.specs.ConfigurationGraph.{rows, stayRows}
-use Rattle.automata.proofs.Stays.{stay-length, node-below, bisimulation-staying}
+use Rattle.automata.proofs.ClassBisimulation.{node-below}
+use Rattle.automata.proofs.Stays.{stay-length, bisimulation-staying}
 use Rattle.automata.proofs.Questions.{settled}
 
 module _ (a : Automaton) where
@@ -55,6 +56,7 @@ module _ (a : Automaton) where
         before w zero = s
         before w (suc i) = w .path i
 
+    -- along a series to a stuck state on it
     along : (path : ℕ → State) → ((i : ℕ) → StepOrStay a (path i) (path (suc i))) → ((i : ℕ) → P (path i)) → (n j : ℕ) → Stuck a (path (j + n)) → Until (StepOrStay a) P (λ t. P t × Stuck a t) (path j)
     along path steps holds zero j stuck = let e : j + 0 ≡ j = omega arith in now (holds j, subst (λ k. Stuck a (path k)) e stuck)
     along path steps holds (suc n) j stuck = let e : j + suc n ≡ suc j + n = omega arith in later (holds j) (steps j) (along path steps holds n (suc j) (subst (λ k. Stuck a (path k)) e stuck))
@@ -92,10 +94,7 @@ module _ (a : Automaton) where
     next-there f = ((λ (t, e, h). subst⁻¹ (Holds a f) (stays t e) h), λ h. (s, inr (stuck, refl), h))
 
     always-there : (f : Formula Atom) → Holds a (EG f) s ↔ Holds a f s
-    always-there f = (
-      (λ w. subst (Holds a f) (w .begins) (w .holds 0)),
-      (λ h. record { path = λ i. s; begins = refl; steps = λ i. inr (stuck, refl); holds = λ i. h }),
-    )
+    always-there f = ((λ w. subst (Holds a f) (w .begins) (w .holds 0)), λ h. stopped-stays (Holds a f) s (now (h, stuck)))
 
     -- at a stuck state EX f, AX f, EG f and AF f are f
     pub at-stuck : T (wellFormed a) → Proper a s → (f : Formula Atom) → T (fitsFormula a f)

@@ -14,7 +14,7 @@ use lib.Dec.{eqb, leb}
 use lib.ListN.{length, getD, take, drop, length-map}
 use lib.Seq.{take-length, paste, length-take-le, getD-take, take-all, take-at, ext-getD}
 use Rattle.graphs.specs.Lists.{upFrom, eqList, table}
-use Rattle.graphs.proofs.Lists.{eqList→eq, getD-map, table-length, table-getD, upFrom-length, upFrom-getD, entry-below, First, first-is}
+use Rattle.graphs.proofs.Lists.{eqList→eq, getD-map, table-length, table-getD, upFrom-length, entry-below, First, first-is, upFrom-value, upFrom-values}
 use Rattle.classes.specs.Classes.{position, labels, lists}
 use Rattle.classes.specs.Contents.{Legal}
 use Rattle.classes.specs.Matrix.{cell, matrix, classMatrix}
@@ -98,14 +98,11 @@ square-fits r h = omega (arith, mul-le-mul-right r h)
 
 pub valuation-length : (r : ℕ) (m : List ℕ) → length (valuationOf r m) ≡ r
 unfolding valuationOf
-valuation-length r m = length-map (upFrom 0 r) (λ i. registerOf (getD m (i * r + i) 0) (firstEqual m (i * r) r)) ∙ upFrom-length 0 r
+valuation-length r m = upFrom-values (λ i. registerOf (getD m (i * r + i) 0) (firstEqual m (i * r) r)) 0 r
 
 pub valuation-entry : (r : ℕ) (m : List ℕ) (i : ℕ) → i < r → getD (valuationOf r m) i 0 ≡ registerOf (getD m (i * r + i) 0) (firstEqual m (i * r) r)
 unfolding valuationOf
-valuation-entry r m i h =
-    let e : getD (upFrom 0 r) i 0 ≡ i = upFrom-getD 0 r i h ∙ omega arith in
-    getD-map (λ i. registerOf (getD m (i * r + i) 0) (firstEqual m (i * r) r)) (upFrom 0 r) i 0 0 (omega (arith, upFrom-length 0 r))
-    ∙ ap (λ i. registerOf (getD m (i * r + i) 0) (firstEqual m (i * r) r)) e
+valuation-entry r m i h = upFrom-value (λ i. registerOf (getD m (i * r + i) 0) (firstEqual m (i * r) r)) r i 0 h
 
 -- positions among the constants' labels
 mark-new : (i n x : ℕ) → i + n ≤ x → position (upFrom i n) x ≡ n

@@ -21,7 +21,7 @@ use Rattle.automata.specs.ConfigurationGraph.{rows}
 use Rattle.automata.specs.Answers.{holding}
 use Rattle.automata.proofs.Equivariance.{inside→}
 use Rattle.automata.proofs.Numbering.{configurations-length, rows-length}
-use Rattle.automata.proofs.ClassBisimulation.{related-below}
+use Rattle.automata.proofs.ClassBisimulation.{node-below}
 use Rattle.automata.proofs.Questions.{holds-number}
 use Rattle.automata.proofs.RowFormulas.{formulas-length, question-fits}
 use Rattle.lists.specs.Arrays.{Kept}
@@ -96,7 +96,7 @@ module _ (a : Automaton) (rs : List Row) (ws : List ℕ) (long : 10784 ≤ lengt
 pub rows-right : (a : Automaton) → T (wellFormed a) → T (limited a) → (rs : List Row) → T (fitsQuestion a rs) → (ws : List ℕ) → 10784 ≤ length ws → RowsClaim a rs ws (shown a (rowFormulas rs) ws)
 rows-right a wf lim rs fits ws long = record {
   holds = λ i low high s p.
-      let below : number a (conf a s) < length (rows a) = rw (rows-length a) (related-below a wf s (number a (conf a s)) (record { proper = p; named = refl })) in
+      let below : number a (conf a s) < length (rows a) = node-below a wf s (number a (conf a s)) (record { proper = p; named = refl }) in
       let e = bit-row a rs ws long i (number a (conf a s)) low high (omega (arith, most)) (omega (arith, graph-fits a lim)) in
       let h = holds-number a wf (rowOf (rowFormulas rs) i) (question-fits a rs fits i) s p in
       (λ t. h .1 (subst T e t), λ t. subst⁻¹ T e (h .0 t));

@@ -10,7 +10,7 @@ use lib.Dec.{T, leb, eqb, leb→le}
 use lib.Ieee.Fits.{and-i, and-l, and-r}
 use lib.ListN.{length, getD, set}
 use Rattle.graphs.specs.Lists.{item, upFrom, allOf}
-use Rattle.graphs.proofs.Lists.{and-elim, allOf-mem, getD-mem, getD-map, upFrom-length, upFrom-getD, upFrom-values, getD-le}
+use Rattle.graphs.proofs.Lists.{and-elim, allOf-mem, getD-mem, getD-map, upFrom-length, upFrom-getD, upFrom-values, getD-le, upFrom-value}
 use Rattle.automata.specs.Automaton.{Term, Condition, Assignment, Transition, Automaton, arity}
 use Rattle.automata.specs.Automaton.Term.{register, parameter, constant}
 use Rattle.automata.specs.Runs.{nowhere}
@@ -196,8 +196,7 @@ module _ (t : List ℕ) where
       unfolding automatonOf
       transition-is =
           let l : i < cell t countsRow 5 = omega (arith, transition-count) in
-          getD-map (transitionAt t) (upFrom 0 (cell t countsRow 5)) i 0 nowhere (omega (arith, upFrom-length 0 (cell t countsRow 5)))
-          ∙ ap (transitionAt t) (upFrom-getD 0 (cell t countsRow 5) i l ∙ omega arith)
+          upFrom-value (transitionAt t) (cell t countsRow 5) i nowhere l
 
       pub transition-fits : T (fitsTransition (automatonOf t) (getD (automatonOf t .transitions) i nowhere))
       transition-fits = wf-transition (automatonOf t) (r .fits) (getD-mem (automatonOf t .transitions) i nowhere h)

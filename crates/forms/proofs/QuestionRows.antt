@@ -10,7 +10,7 @@ use lib.Ieee.Fits.{and-l, and-r}
 use lib.ListN.{length, getD}
 use Rattle.lists.proofs.Arrays.{length-filled, filled-at, filled-kept}
 use Rattle.graphs.specs.Lists.{upFrom}
-use Rattle.graphs.proofs.Lists.{getD-map, upFrom-length, upFrom-getD, upFrom-append, upFrom-agree, upFrom-values}
+use Rattle.graphs.proofs.Lists.{upFrom-append, upFrom-agree, upFrom-values, upFrom-value}
 use Rattle.automata.specs.Automaton.{Automaton}
 use Rattle.automata.specs.Questions.{Row, row}
 use Rattle.automata.specs.WellFormed.{inside, fitsRow, fitsRows, fitsQuestion}
@@ -63,10 +63,7 @@ rows-put t n r h =
 -- The rows of a form, one by one
 
 pub rows-at : (t : List ℕ) (n i : ℕ) (d : Row) → i < n → getD (rowsOf t n) i d ≡ rowAt t i
-rows-at t n i d h =
-    let l : i < length (upFrom 0 n) = omega (arith, upFrom-length 0 n) in
-    let z : 0 + i ≡ i = omega arith in
-    getD-map (rowAt t) (upFrom 0 n) i 0 d l ∙ ap (rowAt t) (upFrom-getD 0 n i h ∙ z)
+rows-at t n i d h = upFrom-value (rowAt t) n i d h
 
 fits-at : (a : Automaton) (k : ℕ) (rs : List Row) (i : ℕ) (d : Row) → i < length rs → T (fitsRows a k rs) → T (fitsRow a (k + i) (getD rs i d))
 fits-at a k [] i d h f = absurd (omega arith)

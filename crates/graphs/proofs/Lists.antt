@@ -79,6 +79,10 @@ module _ {A : Type 0} where
   all-intro p [] h = tt
   all-intro p (x ∷ xs) h = and-i (p x) (allOf p xs) (h x (List·Memᴰ·head refl)) (all-intro p xs (λ y m. h y (List·Memᴰ·tail m)))
 
+  pub allOf-append : (p : A → Bool) (xs ys : List A) → T (allOf p xs) → T (allOf p ys) → T (allOf p (xs ++ ys))
+  allOf-append p [] ys t u = u
+  allOf-append p (x ∷ xs) ys t u = and-i (p x) (allOf p (xs ++ ys)) (and-l (p x) (allOf p xs) t) (allOf-append p xs ys (and-r (p x) (allOf p xs) t) u)
+
   pub anyOf-intro : (p : A → Bool) {xs : List A} {x : A} → List·Memᴰ x xs → T (p x) → T (anyOf p xs)
   anyOf-intro p {xs = y ∷ ys} (List·Memᴰ·head e) t = cond-true (p y) (anyOf p ys) (rw e at t)
   anyOf-intro p {xs = y ∷ ys} (List·Memᴰ·tail m) t = cond-rest (p y) (anyOf p ys) (anyOf-intro p m t)

@@ -26,10 +26,10 @@ use Rattle.automata.specs.WellFormed.{wellFormed, fitsTarget, Proper, constantC
 use Rattle.automata.specs.Configurations.{Configuration, conf, number, Related}
 use Rattle.automata.specs.ConfigurationGraph.{numbered, rows, starts, targets, Listed}
 use Rattle.automata.specs.Answers.{nearestTo}
-use Rattle.automata.proofs.Numbering.{numbered-number, rows-length}
+use Rattle.automata.proofs.Numbering.{numbered-number}
 use Rattle.automata.proofs.StepClasses.{makes-few}
 use Rattle.automata.proofs.Reachability.{one-length}
-use Rattle.automata.proofs.ClassBisimulation.{wf-constants, move-makes, step-proper, initial-proper, conf-listed, related-below, forth, target-agrees, start-agrees}
+use Rattle.automata.proofs.ClassBisimulation.{wf-constants, move-makes, step-proper, initial-proper, conf-listed, node-below, forth, target-agrees, start-agrees}
 use Rattle.moves.specs.Moves.{roomy}
 use Rattle.moves.specs.Taken.{spelled, Smallest}
 use Rattle.moves.specs.PathMoves.{EachSmallest, origin, onward, walkContents, walkMoves, RunAnswer}
@@ -146,7 +146,7 @@ module _ (a : Automaton) (wf : T (wellFormed a)) where
       let (ok, f) = and-elim (permitted a v) (follows a (initial a v) ms) r in
       let s : State = initial a v in
       let b : Related a s (number a (conf a s)) = record { proper = initial-proper a wf v ok; named = refl } in
-      let low : number a (conf a s) < length (rows a) = rw (rows-length a) (related-below a wf s (number a (conf a s)) b) in
+      let low : number a (conf a s) < length (rows a) = node-below a wf s (number a (conf a s)) b in
       let u = walks s ms (start (number a (conf a s))) (low, start-agrees a wf s (number a (conf a s)) b .0 (ok, refl)) b f in
       (walkOn (start (number a (conf a s))) (later s ms), u .is, u .ends, u .through ∙ sym (later-passed s ms), omega (arith, u .count))
 

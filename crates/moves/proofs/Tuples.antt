@@ -8,12 +8,13 @@ use mathlib.Core.Option.{Option, none, some}
 use mathlib.Core.Path.{_≡_, refl, sym, ap, subst, subst⁻¹}
 use native.Mathlib.Decide.{decLt}
 use native.Mathlib.Omega.{arith}
-use lib.Dec.{T, leb, leb→le, le→leb, ltb, ltb→lt}
+use lib.Dec.{T, leb, leb→le, le→leb}
 use lib.ListN.{length}
 use Rattle.graphs.specs.Lists.{upFrom, select, first, table, Dictionary, AtMost}
-use Rattle.graphs.proofs.Lists.{and-elim, select-mem, mem-select, mem-flatMap, flatMap-mem, mem-upFrom, upFrom-mem}
+use Rattle.graphs.proofs.Lists.{select-mem, mem-select, mem-flatMap, flatMap-mem, mem-upFrom, upFrom-mem}
 use Rattle.classes.specs.Renaming.{rising}
 use Rattle.classes.specs.Contents.{Ascending}
+use Rattle.classes.proofs.Renamings.{rising-above, rising-tail}
 use Rattle.classes.proofs.Catalogue.{ascending-append, ascending-cons}
 use Rattle.moves.specs.Moves.{pool, tuples}
 
@@ -32,17 +33,6 @@ rising-append (x ∷ xs) ys (h, a) b c =
 upFrom-rising : (i n : ℕ) → Rising (upFrom i n)
 upFrom-rising i zero = tt
 upFrom-rising i (suc n) = ((λ y m. upFrom-mem (suc i) n m .0), upFrom-rising (suc i) n)
-
-rising-above : (x : ℕ) (xs : List ℕ) → T (rising (x ∷ xs)) → (y : ℕ) → List·Memᴰ y xs → x < y
-rising-above x [] t y m = elim m [ ]
-rising-above x (z ∷ zs) t y m =
-    let (l, r) = and-elim (ltb x z) (rising (z ∷ zs)) t in
-    let h : x < z = ltb→lt x z l in
-    ⊎-elim (λ e. rw e h) (λ n. omega (arith, rising-above z zs r y n)) (List·Memᴰ·cases-cons m)
-
-rising-tail : (x : ℕ) (xs : List ℕ) → T (rising (x ∷ xs)) → T (rising xs)
-rising-tail x [] t = tt
-rising-tail x (y ∷ ys) t = and-elim (ltb x y) (rising (y ∷ ys)) t .1
 
 rising-Rising : (xs : List ℕ) → T (rising xs) → Rising xs
 rising-Rising [] t = tt
