@@ -5,38 +5,13 @@
 //! does not count. Behind the medians stands how far the middle half of the checker's trials lies apart, in percent.
 
 use bench::checker;
+use bench::clock::{now, short};
 use bench::plain::{self, Rounds};
 use bench::tables::{
-    long_run, long_texts, many_losses, many_rounds, mix, sample, sample_texts, sized, smallest, worst, Case, Text,
-    Worst,
+    asked, at_limits, each_place, fails_late, far_ends, long_run, long_texts, many_losses, many_rounds, mix, padded,
+    sample, sample_texts, sized, smallest, spaced, spread, star, vain_first, worst, Case, Star, Text, Worst,
 };
 use std::hint::black_box;
-
-/// C's time: seconds and nanoseconds.
-#[repr(C)]
-struct Timespec {
-    seconds: i64,
-    nanoseconds: i64,
-}
-
-extern "C" {
-    fn clock_gettime(clock: i32, time: *mut Timespec) -> i32;
-}
-
-/// Linux's clock of a thread.
-const THREAD_CLOCK: i32 = 3;
-
-/// The seconds that this thread has run.
-fn now() -> f64 {
-    let mut t = Timespec {
-        seconds: 0,
-        nanoseconds: 0,
-    };
-    // It writes the time to `t`, which lives.
-    let failed = unsafe { clock_gettime(THREAD_CLOCK, &mut t) };
-    assert_eq!(failed, 0, "no clock");
-    t.seconds as f64 + t.nanoseconds as f64 * 1e-9
-}
 
 /// Seconds for one call, and how far the middle half of the trials lies apart, in percent of the median.
 #[derive(Clone, Copy)]
@@ -84,18 +59,8 @@ fn time(calls: &mut [&mut dyn FnMut()]) -> Vec<Time> {
     found.into_iter().map(time_of).collect()
 }
 
-fn short(seconds: f64) -> String {
-    if seconds >= 1.0 {
-        format!("{seconds:.2} s")
-    } else if seconds >= 1e-3 {
-        format!("{:.2} ms", seconds * 1e3)
-    } else {
-        format!("{:.2} us", seconds * 1e6)
-    }
-}
-
 fn line(name: &str, ours: Option<Time>, plain: &[Time]) {
-    let mut text = format!("{name:<48}");
+    let mut text = format!("{name:<56}");
     text.push_str(&format!("{:>12}", ours.map_or("-".to_string(), |t| short(t.median))));
     for t in plain {
         text.push_str(&format!("{:>12}", short(t.median)));
@@ -246,15 +211,104 @@ fn reading(table: &[u8]) {
 }
 
 fn header(title: &str, columns: &[&str]) {
-    let mut text = format!("\n{title:<48}{:>12}", "checker");
+    let mut text = format!("\n{title:<56}{:>12}", "checker");
     for column in columns {
         text.push_str(&format!("{column:>12}{:>8}", "ratio"));
     }
     println!("{text}{:>9}", "spread");
 }
 
+/// Questions on tables that were made to hurt; with `all` also those that take long.
+fn hurting(all: bool) {
+    header("questions with many rounds", &["plain", "going back"]);
+    asking(&many_rounds(1));
+    asking(&padded(1));
+    asking(&many_losses(1));
+    asking(&vain_first(1));
+    asking(&far_ends(21));
+    // These take minutes.
+    if all {
+        asking(&many_rounds(29));
+        asking(&padded(29));
+        asking(&many_losses(29));
+        asking(&vain_first(31));
+    }
+
+    header("questions with many rows", &["plain", "going back"]);
+    for s in [Star::Wide, Star::Narrow] {
+        asking(&star(s, 12, 31));
+        asking(&star(s, 8, 31));
+    }
+    asking(&spaced(Worst::Set, 29));
+    asking(&spaced(Worst::Free, 29));
+    asking(&each_place(Worst::Set));
+    for row in [6, 12, 14] {
+        asking(&at_limits(Worst::Late, row, 31));
+    }
+    if all {
+        for kind in [Worst::Free, Worst::Set, Worst::Keep] {
+            for row in [6, 12, 14] {
+                asking(&at_limits(kind, row, 31));
+            }
+        }
+    }
+}
+
+fn growing() {
+    let arcs = [0, 16, 32, 48, 64];
+    let places = [1, 2, 4, 8, 16];
+    header("growth: reaching", &["plain"]);
+    for registers in 0..=5 {
+        reaching(&sized(Worst::Set, registers, 64, 3));
+    }
+    for arcs in arcs {
+        reaching(&sized(Worst::Set, 5, arcs, 3));
+    }
+    for parameters in 0..=3 {
+        reaching(&sized(Worst::Set, 5, 64, parameters));
+    }
+    for places in places {
+        reaching(&spread(Worst::Set, 5, 64, 3, places));
+    }
+
+    header("growth: questions", &["plain", "going back"]);
+    for registers in 0..=5 {
+        asking(&sized(Worst::Set, registers, 64, 3));
+    }
+    for arcs in arcs {
+        asking(&sized(Worst::Set, 5, arcs, 3));
+    }
+    for parameters in 0..=3 {
+        asking(&sized(Worst::Set, 5, 64, parameters));
+    }
+    for places in places {
+        asking(&spread(Worst::Set, 5, 64, 3, places));
+    }
+
+    // Rows, where the steps themselves take little.
+    header("growth: rows of a question", &["plain", "going back"]);
+    let rows = [1, 8, 16, 31];
+    for rows in rows {
+        asking(&asked(sized(Worst::Set, 5, 64, 0), 6, rows));
+    }
+    for rows in rows {
+        asking(&star(Star::Narrow, 12, rows));
+    }
+    for rows in rows {
+        asking(&star(Star::Narrow, 8, rows));
+    }
+}
+
 fn run() {
-    let worst_kinds = [Worst::Free, Worst::Set, Worst::Keep, Worst::Fresh, Worst::Idle];
+    let all = std::env::args().any(|a| a == "all");
+    let worst_kinds = [
+        Worst::Free,
+        Worst::Set,
+        Worst::Keep,
+        Worst::Fresh,
+        Worst::Idle,
+        Worst::Late,
+    ];
     println!("Medians. Ratio: the checker's time to the plain implementation's. Spread: the middle half of the checker's trials.");
     println!("Buffers: the C functions have working buffers of their own and clear them at each call; the plain implementation");
     println!("allocates and clears its vectors at each call. The smallest table shows what that costs.");
@@ -272,6 +326,7 @@ fn run() {
         reaching(&worst(kind));
     }
     reaching(&long_run());
+    reaching(&fails_late());
 
     header("questions", &["plain", "going back"]);
     asking(&smallest());
@@ -283,13 +338,8 @@ fn run() {
         asking(&worst(kind));
     }
     asking(&long_run());
-    asking(&many_rounds(1));
-    asking(&many_losses(1));
-    // These take minutes.
-    if std::env::args().any(|a| a == "all") {
-        asking(&many_rounds(29));
-        asking(&many_losses(29));
-    }
+
+    hurting(all);
 
     header("questions as text", &["plain", "going back"]);
     for t in sample_texts() {
@@ -299,27 +349,7 @@ fn run() {
     header("reading 400 bytes, beyond the opening", &["plain"]);
     reading(&smallest().table);
 
-    header("growth: reaching", &["plain"]);
-    for registers in 0..=5 {
-        reaching(&sized(Worst::Set, registers, 64, 3));
-    }
-    for arcs in [0, 16, 32, 48, 64] {
-        reaching(&sized(Worst::Set, 5, arcs, 3));
-    }
-    for parameters in 0..=3 {
-        reaching(&sized(Worst::Set, 5, 64, parameters));
-    }
-
-    header("growth: questions", &["plain", "going back"]);
-    for registers in 0..=5 {
-        asking(&sized(Worst::Set, registers, 64, 3));
-    }
-    for arcs in [0, 16, 32, 48, 64] {
-        asking(&sized(Worst::Set, 5, arcs, 3));
-    }
-    for parameters in 0..=3 {
-        asking(&sized(Worst::Set, 5, 64, parameters));
-    }
+    growing();
 }
 
 /// Writes the files of the cases whose use of the stack is measured.

@@ -1,6 +1,7 @@
 //! The tables, targets and questions that are timed.
 
 /// One case: the files of both calls.
+#[derive(Clone)]
 pub struct Case {
     pub name: String,
     pub table: Vec<u8>,
@@ -103,6 +104,34 @@ impl Flow<'_> {
         }
         bytes
     }
+}
+
+/// An arc of a table that is put together: from, to, number of parameters, conditions, and what is set.
+type Arc = (usize, usize, usize, String, String);
+
+fn arc(from: usize, to: usize, when: &str, set: &str) -> Arc {
+    (from, to, 0, when.to_string(), set.to_string())
+}
+
+/// Five registers, two constants and sixteen places with these arcs.
+fn at_limit(name: &str, start: &str, arcs: &[Arc], target: Vec<u8>, question: &str) -> Case {
+    let arcs: Vec<(usize, usize, usize, &str, &str)> = arcs
+        .iter()
+        .map(|(from, to, n, when, set)| (*from, *to, *n, when.as_str(), set.as_str()))
+        .collect();
+    let flow = Flow {
+        registers: 5,
+        constants: &[0, 1],
+        places: 16,
+        start,
+        arcs: &arcs,
+    };
+    case(name, flow, target, question)
+}
+
+/// So many times the same row after these.
+fn again(first: &str, row: &str, times: usize) -> String {
+    first.to_string() + &format!("; {row}").repeat(times)
 }
 
 fn target(place: usize, when: &str) -> Vec<u8> {
@@ -390,7 +419,11 @@ pub enum Worst {
     Fresh,
     /// Eight conditions that hold always.
     Idle,
+    /// The same, each about the last parameter: none is known to hold before all three are chosen.
+    Late,
 }
+
+const LATE: &str = "p3=p3 p3=p3 p3=p3 p3=p3 p3=p3 p3=p3 p3=p3 p3=p3";
 
 /// Five registers, two constants, sixteen places, 64 arcs of three parameters, four from each place. The target has
 /// contents that none meet, so that all is looked at; the question needs every step.
@@ -400,9 +433,15 @@ pub fn worst(kind: Worst) -> Case {
 
 /// The same with fewer registers, arcs or parameters.
 pub fn sized(kind: Worst, registers: usize, arcs: usize, parameters: usize) -> Case {
+    spread(kind, registers, arcs, parameters, 16)
+}
+
+/// The same with fewer places too, over which the arcs are spread.
+pub fn spread(kind: Worst, registers: usize, arcs: usize, parameters: usize, places: usize) -> Case {
     let when = match kind {
         Worst::Fresh => "p1!=c1 p1!=c2 p1!=r1 p1!=r2 p1!=r3 p1!=r4 p1!=r5 p1!=p2",
         Worst::Idle => "p1=p1 p2=p2 p3=p3 r1=r1 r2=r2 r3=r3 r4=r4 r5=r5",
+        Worst::Late => LATE,
         _ => "",
     };
     let mut set = String::new();
@@ -415,8 +454,8 @@ pub fn sized(kind: Worst, registers: usize, arcs: usize, parameters: usize) -> C
     }
     let list: Vec<(usize, usize, usize, &str, &str)> = (0..arcs)
         .map(|i| {
-            let from = i % 16 + 1;
-            let to = (i * 7 + i / 16) % 16 + 1;
+            let from = i % places + 1;
+            let to = (i * 7 + i / places) % places + 1;
             (from, to, parameters, when, set.as_str())
         })
         .collect();
@@ -426,26 +465,32 @@ pub fn sized(kind: Worst, registers: usize, arcs: usize, parameters: usize) -> C
         Worst::Keep => "keep",
         Worst::Fresh => "fresh",
         Worst::Idle => "idle",
+        Worst::Late => "late",
+    };
+    let fewer = if places < 16 {
+        format!(", {places} places")
+    } else {
+        String::new()
     };
     let impossible = if registers > 0 { "r1!=r1" } else { "c1=c2" };
     case(
-        &format!("{name} {registers} registers, {arcs} arcs, {parameters} parameters"),
+        &format!("{name} {registers} registers, {arcs} arcs, {parameters} parameters{fewer}"),
         Flow {
             registers,
             constants: &[3, 9],
-            places: 16,
+            places,
             start: "",
             arcs: &list,
         },
-        target(16, impossible),
+        target(places, impossible),
         "1 1 0; 12 1 0; 8 2 0; 14 1 0; 11 4 0; 7 2 5",
     )
 }
 
 /// A counter over the classes of five registers, fifteen places passed between two counts: 6,672 steps. A digit goes
 /// from low (constant 1) to the leading digit's value, to a value of its own, to high (constant 2).
-pub fn long_run() -> Case {
-    let mut arcs: Vec<(usize, usize, usize, String, String)> = Vec::new();
+fn counter() -> Vec<Arc> {
+    let mut arcs: Vec<Arc> = Vec::new();
     let mut count = |digit: usize, when: &str, value: &str| {
         let mut when = when.to_string();
         let mut set = format!("r{digit}={value} ");
@@ -464,89 +509,205 @@ pub fn long_run() -> Case {
         count(d, &format!("r{d}!=c1 r{d}!=c2 r{d}!=r1"), "c2");
     }
     for place in 2..=16 {
-        arcs.push((place, place % 16 + 1, 0, String::new(), "keep".to_string()));
+        arcs.push(arc(place, place % 16 + 1, "", "keep"));
     }
-    let arcs: Vec<(usize, usize, usize, &str, &str)> = arcs
-        .iter()
-        .map(|(from, to, n, when, set)| (*from, *to, *n, when.as_str(), set.as_str()))
-        .collect();
-    case(
-        "long shortest run",
-        Flow {
-            registers: 5,
-            constants: &[0, 1],
-            places: 16,
-            start: "r1=c1 r2=c1 r3=c1 r4=c1 r5=c1",
-            arcs: &arcs,
-        },
-        target(1, "r1=c2 r2=c2 r3=c2 r4=c2 r5=c2"),
-        "1 1 0; 3 1 2; 3 2 2; 3 3 2; 3 4 2; 3 5 2; 5 1 2; 5 3 7; 5 4 8; 5 5 9; 5 6 10; 12 11 0",
-    )
+    arcs
+}
+
+/// The counter's start: every digit low. Its target, and row 11 of its question: every digit high.
+const LOW: &str = "r1=c1 r2=c1 r3=c1 r4=c1 r5=c1";
+const HIGH: &str = "r1=c2 r2=c2 r3=c2 r4=c2 r5=c2";
+const HIGH_ROWS: &str = "1 1 0; 3 1 2; 3 2 2; 3 3 2; 3 4 2; 3 5 2; 5 1 2; 5 3 7; 5 4 8; 5 5 9; 5 6 10";
+
+/// The longest shortest run that is known.
+pub fn long_run() -> Case {
+    let question = again(HIGH_ROWS, "12 11 0", 1);
+    at_limit("long shortest run", LOW, &counter(), target(1, HIGH), &question)
 }
 
 /// Arcs from place 1 to a place that lower the list: from each list to the one before it, and to earlier ones only.
-fn lower(to: usize) -> Vec<(usize, usize, usize, String, String)> {
+fn lower(to: usize) -> Vec<Arc> {
     let mut arcs = Vec::new();
     for i in 1..=5 {
         let kept: String = (1..i).map(|r| format!("r{r}=r{r} ")).collect();
-        arcs.push((1, to, 0, format!("r{i}!=c1"), format!("{kept}r{i}=c1")));
-        arcs.push((1, to, 0, format!("r{i}!=c1 r{i}!=c2"), format!("{kept}r{i}=c2")));
+        arcs.push(arc(1, to, &format!("r{i}!=c1"), &format!("{kept}r{i}=c1")));
+        arcs.push(arc(1, to, &format!("r{i}!=c1 r{i}!=c2"), &format!("{kept}r{i}=c2")));
         // To the block of an earlier register: of a later block than all registers up to that one.
         for j in 1..i {
             let mut when = format!("r{j}!=c1 r{j}!=c2 r{i}!=c1 r{i}!=c2");
             for m in 1..=j {
                 when.push_str(&format!(" r{i}!=r{m}"));
             }
-            arcs.push((1, to, 0, when, format!("{kept}r{i}=r{j}")));
+            arcs.push(arc(1, to, &when, &format!("{kept}r{i}=r{j}")));
         }
     }
     arcs
 }
 
-/// Five registers, two constants and sixteen places with these arcs, of which none leads from place 1 to place 1. The
-/// configuration that is stuck there alone has EG of place 1; the question is `rows` rows of EG of all others.
-fn rounds(name: String, arcs: &[(usize, usize, usize, String, String)], rows: usize) -> Case {
-    let arcs: Vec<(usize, usize, usize, &str, &str)> = arcs
-        .iter()
-        .map(|(from, to, n, when, set)| (*from, *to, *n, when.as_str(), set.as_str()))
+/// The configurations of the first places in one falling order, the last one stuck: a step lowers the place, or from place
+/// 1 the list.
+fn falling(places: usize) -> Vec<Arc> {
+    let mut arcs = lower(places);
+    for place in 2..=places {
+        arcs.push(arc(place, place - 1, "", "keep"));
+    }
+    arcs
+}
+
+/// These arcs, of which none leads from place 1 to place 1. The configuration that is stuck there alone has EG of place 1;
+/// the question is `rows` rows of EG of all others.
+fn rounds(name: String, arcs: &[Arc], rows: usize) -> Case {
+    let question = again("1 1 0; 8 1 0; 4 2 0", "8 3 0", rows);
+    at_limit(&name, "", arcs, target(1, LOW), &question)
+}
+
+/// All 10,784 configurations in one falling order. So each round of EG of the others takes away one configuration only,
+/// and `rows` rows need 10,783 rounds each.
+pub fn many_rounds(rows: usize) -> Case {
+    rounds(format!("{rows} rows of 10,783 rounds"), &falling(16), rows)
+}
+
+/// The configurations of the first three places in one falling order, and steps from all others to all of these. So 2,021
+/// rounds of EG take away one configuration each, and after each all 8,762 others have lost a step.
+pub fn many_losses(rows: usize) -> Case {
+    let mut arcs = falling(3);
+    for place in 4..=16 {
+        for to in 1..=3 {
+            arcs.push(arc(place, to, "", ""));
+        }
+    }
+    rounds(format!("{rows} rows of 2,021 rounds, 8,762 losses each"), &arcs, rows)
+}
+
+/// `many_rounds` with 29 arcs more that never fit and come first, two into most places. A search backward meets each
+/// configuration once and leaves it after looking in vain through every arc into its place, these among them; rounds read
+/// their rows each time something leaves that place.
+pub fn padded(rows: usize) -> Case {
+    let mut arcs: Vec<Arc> = (0..29).map(|i| never(i * 5 % 16 + 1, i % 16 + 1)).collect();
+    arcs.extend(falling(16));
+    rounds(format!("{rows} rows of 10,783 rounds, 29 arcs in vain"), &arcs, rows)
+}
+
+fn never(from: usize, to: usize) -> Arc {
+    arc(from, to, "r1!=r1", "keep")
+}
+
+/// The configurations of places 1 to 11 in one falling order, 7,414 of them, with a step from the last one to place 13,
+/// where the segment is stuck. Place 12 has steps to all of these, behind 22 arcs that never fit: whoever looks for a step
+/// that is left looks through those first, for 674 configurations after each of 7,414 rounds. The question is `rows` rows
+/// of AF place 13: EG of all other places, turned round.
+pub fn vain_first(rows: usize) -> Case {
+    let mut arcs: Vec<Arc> = (0..22).map(|i| never(12, i % 11 + 1)).collect();
+    arcs.extend(falling(11));
+    arcs.push(arc(1, 13, LOW, "keep"));
+    arcs.extend((1..=11).map(|to| arc(12, to, "", "")));
+    let name = format!("{rows} rows of 7,414 rounds, 22 arcs in vain first");
+    let question = again("1 13 0", "14 1 0", rows);
+    at_limit(&name, "", &arcs, target(13, ""), &question)
+}
+
+/// The longest run's table with `rows` rows of EF of its end: rounds of EF add one or a few configurations each.
+pub fn far_ends(rows: usize) -> Case {
+    let question = again(HIGH_ROWS, "12 11 0", rows);
+    let name = format!("{rows} rows of EF at the end of the long run");
+    at_limit(&name, LOW, &counter(), target(1, HIGH), &question)
+}
+
+/// The longest run's table with 31 arcs more of three parameters, which fail only at their eighth condition and come
+/// first: each step of the run looks through them in vain.
+pub fn fails_late() -> Case {
+    let when = LATE[..LATE.len() - 5].to_string() + "p3!=p3";
+    let mut arcs: Vec<Arc> = (0..31)
+        .map(|i| (i % 16 + 1, (i + 1) % 16 + 1, 3, when.clone(), "keep".to_string()))
         .collect();
-    let question = format!("1 1 0; 8 1 0; 4 2 0{}", "; 8 3 0".repeat(rows));
-    case(
-        &name,
-        Flow {
-            registers: 5,
-            constants: &[0, 1],
-            places: 16,
-            start: "",
-            arcs: &arcs,
-        },
-        target(1, "r1=c1 r2=c1 r3=c1 r4=c1 r5=c1"),
+    arcs.extend(counter());
+    let question = again(HIGH_ROWS, "12 11 0", 1);
+    at_limit(
+        "long shortest run, 31 arcs that fail late",
+        LOW,
+        &arcs,
+        target(1, HIGH),
         &question,
     )
 }
 
-/// All 10,784 configurations in one falling order, the last one stuck: a step lowers the place, or from place 1 the list.
-/// So each round of EG of the others takes away one configuration only, and `rows` rows need 10,783 rounds each.
-pub fn many_rounds(rows: usize) -> Case {
-    let mut arcs = lower(16);
-    for place in 2..=16 {
-        arcs.push((place, place - 1, 0, String::new(), "keep".to_string()));
-    }
-    rounds(format!("{rows} rows of 10,783 rounds"), &arcs, rows)
+/// What the sixteen arcs into place 1 do that fit.
+#[derive(Clone, Copy, PartialEq, Eq)]
+pub enum Star {
+    /// Nothing is set: a step to each configuration of place 1.
+    Wide,
+    /// All registers are set to constant 1: a step to one configuration, which all have in common.
+    Narrow,
 }
 
-/// The configurations of the first three places in one falling order, the last one stuck, and steps from all others to all
-/// of these. So 2,021 rounds of EG take away one configuration each, and after each all 8,762 others have lost a step.
-pub fn many_losses(rows: usize) -> Case {
-    let mut arcs = lower(3);
-    arcs.push((3, 2, 0, String::new(), "keep".to_string()));
-    arcs.push((2, 1, 0, String::new(), "keep".to_string()));
-    for place in 4..=16 {
-        for to in 1..=3 {
-            arcs.push((place, to, 0, String::new(), String::new()));
-        }
+/// 64 arcs into place 1: first 48 that never fit, three from each place, then one from each place that fits always. A
+/// search backward finds 10,110 configurations from one and the same, each after looking through those 48 again, where
+/// lists of predecessors have the steps only: 10,784 of them, if narrow. The question is `rows` times this row about place
+/// 1; `row` is 12 for EF, or 8 for EG, which is asked of all configurations.
+pub fn star(star: Star, row: usize, rows: usize) -> Case {
+    let (name, set) = match star {
+        Star::Wide => ("wide", ""),
+        Star::Narrow => ("narrow", "r1=c1 r2=c1 r3=c1 r4=c1 r5=c1"),
+    };
+    let mut arcs: Vec<Arc> = (0..48).map(|i| never(i % 16 + 1, 1)).collect();
+    arcs.extend((1..=16).map(|from| arc(from, 1, "", set)));
+    let (first, kind) = if row == 8 { ("2 1 1", "EG") } else { ("1 1 0", "EF") };
+    let question = again(first, &format!("{row} 1 0"), rows);
+    at_limit(
+        &format!("{rows} rows of {kind} on a {name} star"),
+        "",
+        &arcs,
+        target(1, "r1!=r1"),
+        &question,
+    )
+}
+
+/// A table at every limit with `rows` rows of this kind. `Worst::Set` has a row of steps for each class,
+/// `Worst::Free` all steps that there can be.
+pub fn at_limits(kind: Worst, row: usize, rows: usize) -> Case {
+    asked(worst(kind), row, rows)
+}
+
+/// Of a table of these families, `rows` rows about place 1: of EG (8), AX (11), EF (12) or AF (14); or of EX (6) about all
+/// configurations, so that every step counts.
+pub fn asked(c: Case, row: usize, rows: usize) -> Case {
+    let kind = match row {
+        6 => "EX",
+        8 => "EG",
+        11 => "AX",
+        12 => "EF",
+        _ => "AF",
+    };
+    let first = if row == 6 { "2 1 1" } else { "1 1 0" };
+    let question = again(first, &format!("{row} 1 0"), rows);
+    with_question(c, &format!("{rows} rows of {kind}"), &question)
+}
+
+fn with_question(c: Case, name: &str, question: &str) -> Case {
+    let family = c.name.split(' ').next().expect("a name");
+    Case {
+        name: format!("{family}: {name}"),
+        question: columns(question),
+        ..c
     }
-    rounds(format!("{rows} rows of 2,021 rounds, 8,762 losses each"), &arcs, rows)
+}
+
+/// A table at every limit with EX and AX in turns of a set that has about one configuration in each word of 32: what goes
+/// by words gains least there.
+pub fn spaced(kind: Worst, rows: usize) -> Case {
+    let turns: String = (0..rows)
+        .map(|i| if i % 2 == 0 { "; 6 3 0" } else { "; 11 3 0" })
+        .collect();
+    let question = "3 4 1; 3 5 1; 5 1 2".to_string() + &turns;
+    with_question(worst(kind), &format!("{rows} rows of EX and AX, spaced"), &question)
+}
+
+/// A table at every limit with AF of each place: sixteen searches through different sets.
+pub fn each_place(kind: Worst) -> Case {
+    let places: Vec<String> = (1..=16).map(|l| format!("1 {l} 0")).collect();
+    let rows: Vec<String> = (1..=16).map(|l| format!("14 {l} 0")).collect();
+    let question = [places, rows].concat().join("; ");
+    with_question(worst(kind), "16 rows of AF, a place each", &question)
 }
 
 /// A question as text, and the number of the refusal that it gets, if it gets one.

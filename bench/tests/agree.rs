@@ -1,8 +1,10 @@
 //! The plain implementation gives what the independent engine gives, and the cases are what they are said to be.
 
+use bench::drafts::{Draft, Random as Drawn};
 use bench::plain::{ask, ask_text, reach, Asked, Refusal, Rounds};
 use bench::tables::{
-    long_run, long_texts, many_losses, many_rounds, mix, sample, sample_texts, sized, smallest, worst, Case, Worst,
+    asked, each_place, fails_late, far_ends, long_run, long_texts, many_losses, many_rounds, mix, padded, sample,
+    sample_texts, sized, smallest, spaced, spread, star, vain_first, worst, Case, Star, Worst,
 };
 use engine::generate::{case, Shape};
 use engine::mutate::mutate;
@@ -175,30 +177,101 @@ fn timed_tables() {
     both(&sized(Worst::Free, 3, 32, 0));
 }
 
+/// How many configurations each row has.
+fn ones(asked: &Asked, row: usize) -> u32 {
+    asked.rows[337 * row..][..337].iter().map(|w| w.count_ones()).sum()
+}
+
 #[test]
 fn extremes() {
-    let long = long_run();
-    compare_reach(&long.table, &long.target, "long");
-    assert_eq!(reach(&long.table, &long.target).expect("a good table").steps, 6_672);
+    for long in [long_run(), fails_late()] {
+        compare_reach(&long.table, &long.target, &long.name);
+        assert_eq!(reach(&long.table, &long.target).expect("a good table").steps, 6_672);
+    }
     // Of all configurations but the one that is stuck, none is left in the end.
-    for c in [many_rounds(1), many_losses(1)] {
+    for c in [many_rounds(1), many_losses(1), padded(1)] {
         compare_reach(&c.table, &c.target, &c.name);
         let asked = ask(&c.table, &c.question, Rounds::Back).expect("a good table");
-        let ones = |row: usize| {
-            asked.rows[337 * row..][..337]
-                .iter()
-                .map(|w| w.count_ones())
-                .sum::<u32>()
-        };
-        assert_eq!(
-            (asked.yes, ones(1), ones(2), ones(3)),
-            (false, 1, 10_783, 0),
-            "{}",
-            c.name
-        );
+        let found = [1, 2, 3].map(|row| ones(&asked, row));
+        assert_eq!((asked.yes, found), (false, [1, 10_783, 0]), "{}", c.name);
     }
-    for kind in [Worst::Free, Worst::Set, Worst::Keep, Worst::Fresh, Worst::Idle] {
+    for kind in [
+        Worst::Free,
+        Worst::Set,
+        Worst::Keep,
+        Worst::Fresh,
+        Worst::Idle,
+        Worst::Late,
+    ] {
         let c = worst(kind);
         assert!(!reach(&c.table, &c.target).expect("a good table").reached);
+    }
+}
+
+/// Both plain ways give the same rows; how many configurations the last one has.
+fn alike(c: &Case, last: usize) -> u32 {
+    let back = ask(&c.table, &c.question, Rounds::Back).expect("a good question");
+    let whole = ask(&c.table, &c.question, Rounds::Whole).expect("a good question");
+    assert_eq!((back.yes, back.class), (whole.yes, whole.class), "{}", c.name);
+    assert!(back.rows == whole.rows, "{}", c.name);
+    assert!(reach(&c.table, &c.target).is_ok(), "{}", c.name);
+    ones(&back, last)
+}
+
+/// With few rows, since those that follow are the same.
+#[test]
+fn tables_that_hurt() {
+    // All of places 1 to 12 comes to place 13; the last three places are stuck elsewhere.
+    assert_eq!(alike(&vain_first(1), 1), 13 * 674);
+    alike(&far_ends(1), 11);
+    for s in [Star::Wide, Star::Narrow] {
+        assert_eq!(alike(&star(s, 12, 2), 2), 10_784);
+        assert_eq!(alike(&star(s, 8, 2), 2), 10_784);
+    }
+    alike(&spaced(Worst::Free, 2), 4);
+    alike(&each_place(Worst::Keep), 31);
+    alike(&asked(sized(Worst::Set, 5, 64, 0), 6, 2), 2);
+    for places in [1, 2, 4, 8] {
+        alike(&spread(Worst::Set, 2, 64, 3, places), 5);
+    }
+    // The longest questions there are.
+    for c in [
+        many_rounds(29),
+        padded(29),
+        vain_first(31),
+        far_ends(21),
+        star(Star::Wide, 8, 31),
+    ] {
+        assert_eq!(c.question.len(), 608, "{}", c.name);
+    }
+}
+
+/// A draft says what its case says, and stays legal however often it is changed.
+#[test]
+fn drafts() {
+    for c in [
+        vain_first(1),
+        far_ends(21),
+        fails_late(),
+        worst(Worst::Late),
+        star(Star::Narrow, 8, 31),
+    ] {
+        let draft = Draft::of(&c);
+        assert!(draft.table() == c.table, "{}", c.name);
+        assert!(draft.target() == c.target, "{}", c.name);
+        assert!(draft.question() == c.question, "{}", c.name);
+    }
+    let mut draft = Draft::of(&sized(Worst::Set, 2, 16, 2));
+    for seed in 0..2000 {
+        let mut random = Drawn::new(seed);
+        draft = draft.changed(&mut random, seed % 2 == 0, 32);
+        let (table, question) = (draft.table(), draft.question());
+        assert!(reach(&table, &draft.target()).is_ok(), "{seed}");
+        let [back, whole] = [Rounds::Back, Rounds::Whole].map(|r| ask(&table, &question, r).ok().map(|a| a.rows));
+        assert!(back.is_some() && back == whole, "{seed}");
+    }
+    for seed in 0..3 {
+        let draft = Draft::random(&mut Drawn::new(seed), 32);
+        assert!(reach(&draft.table(), &draft.target()).is_ok(), "{seed}");
     }
 }
