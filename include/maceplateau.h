@@ -32,10 +32,9 @@
 #include <stddef.h>
 #include <stdint.h>
 
-/* Bytes of stack that suffice for every call: what the source asks for. Reaching: 950,408 bytes for the buffers of a call, 92,206 for the forms, the queue
- * and the path, and 64 for each of at most 10,784 calls of the walk over the links, 1.74 MB in all; the compiler drops what is not returned, and a call
- * was seen to take 0.28 MB to 0.66 MB (tests/c/measure). A question: 4.2 MB, whatever the table; reading a
- * text takes 0.1 MB more where its brackets stand 400 deep. */
+/* Bytes of stack that suffice for every call. The buffers have the size that the table needs: reaching was seen to take 0.07 MB for a small table and 0.22 MB
+ * for one at every limit, a question 0.07 MB and 4.2 MB; reading a text takes 0.1 MB where its brackets stand 400 deep, before the question is answered
+ * (tests/c/measure). */
 #define MACEPLATEAU_REACH_STACK ((size_t)2 << 20)
 #define MACEPLATEAU_ASK_STACK ((size_t)5 << 20)
 

@@ -6,3 +6,4 @@ pub mod Narrowed
 pub mod LabelRows
 pub mod Ranked
 pub mod MatrixRows
+pub mod Listed

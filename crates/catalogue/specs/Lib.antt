@@ -3,3 +3,4 @@ pub mod FlatCatalogue
 pub mod Serving
 pub mod Numbers
 pub mod MatrixCells
+pub mod Listing

@@ -53,7 +53,7 @@ const COUNTS: [u16; 42] = [
     20878,
 ];
 
-fn count_of(n: usize, b: usize) -> u16
+pub fn count_of(n: usize, b: usize) -> u16
     requires { ⌜ (n < 6) × (b < 7) ⌝ }
     ensures { λ q. ⌜ q ≡ listCount n b ⌝ }
 {

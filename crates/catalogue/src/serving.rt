@@ -3,13 +3,11 @@ ghost use mathlib.Core.Path.{_≡_};
 ghost use mathlib.Core.List.{[]};
 ghost use Prim.Native.Nat.{_+_, _*_, _-_, _<_, _≤_};
 ghost use lib.ListN.{length, getD};
-ghost use lib.Seq.{paste};
 ghost use Rattle.classes.specs.Classes.{lists};
 ghost use Rattle.lists.specs.Arrays.{padded, written};
 ghost use Rattle.lists.specs.Filling.{Begins};
 ghost use Rattle.catalogue.specs.FlatCatalogue.{catalogue, row};
-ghost use Rattle.catalogue.specs.Serving.{servesLabel, serves, narrow, servingRows, labelRows};
-use crate::numbers::class_count;
+ghost use Rattle.catalogue.specs.Serving.{servesLabel, serves, narrow, servingRows};
 use crate::numbers::wide16;
 
 // May a label stand in a register, which is there or not, of a table with c constants?
@@ -81,30 +79,4 @@ pub fn class_labels(table: &[u8], rows: &[u16], r: usize, c: usize, number: usiz
         i += 1;
     }
     labels
-}
-
-// Five labels, from place `at` on.
-fn store(flat: &mut [u8], at: usize, labels: [u8; 5])
-    requires { ⌜ at + 5 ≤ length (now flat) ⌝ }
-    ensures { λ q. ⌜ now (flat .exit) ≡ paste (now (flat .entry)) at labels 5 ⌝ }
-{
-    let mut j = 0;
-    while j < 5 {
-        flat[at + j] = labels[j];
-        j += 1;
-    }
-}
-
-// The labels of all classes, five to a class, one class after another, to the front of `flat`.
-pub fn fill_labels(table: &[u8], rows: &[u16], r: usize, c: usize, flat: &mut [u8])
-    requires { ⌜ (now table ≡ catalogue) × (r ≤ 5) × (c ≤ 2) × Begins (servingRows r c) (now rows) × (5 * length (lists r c) ≤ length (now flat)) ⌝ }
-    ensures { λ q. ⌜ now (flat .exit) ≡ written (labelRows r c) (now (flat .entry)) ⌝ }
-{
-    let count = class_count(r, c);
-    let mut k = 0;
-    while k < count {
-        let labels = class_labels(table, rows, r, c, k);
-        store(flat, k * 5, labels);
-        k += 1;
-    }
 }

@@ -10,7 +10,7 @@ use Rattle.forms.specs.FormAutomaton.{automatonOf}
 use Rattle.refusals.specs.declared.Refusal.{Refusal}
 use Rattle.refusals.specs.Judged.{Judged}
 use Rattle.refusals.specs.Judged.Judged.{accepted, refused}
-use Rattle.reader.specs.TableReply.{replyOf, formOf}
+use Rattle.reader.specs.TableReply.{replyOf, Holds}
 use Rattle.reader.specs.declared.Reply.{Reply}
 use Rattle.reader.specs.declared.Reply.the-variants.{Accepted, Refused}
 use Rattle.forms.specs.Readable.{Readable}
@@ -18,7 +18,7 @@ use Rattle.catalogue.specs.Serving.{labelRows}
 use Rattle.catalogue.proofs.LabelRows.{label-rows-length}
 use Rattle.lists.proofs.Arrays.{written-length}
 use Rattle.opening.specs.Opening.{openTable}
-use Rattle.opening.specs.OpenedLabels.{labelsOf, classLabels}
+use Rattle.opening.specs.OpenedLabels.{classLabels, Labelled}
 use Rattle.opening.proofs.Opened.{opened-readable}
 use Rattle.opening.proofs.LabelsWritten.{counts-few, labels-held}
 use Rattle.automata.specs.WellFormed.{constantCount}
@@ -40,10 +40,10 @@ labels-long t r =
     let z : length (replicate {A = ℕ} 3370 0) ≡ 3370 = length-replicate {0} {A = ℕ} 3370 0 in
     written-length (labelRows q k) (replicate 3370 0) (omega (arith, label-rows-length q k (counts-few t r .0), classes-few t r, z)) ∙ z
 
-pub told-opened : (s t v cat w : List ℕ) (q : Reply) → q ≡ replyOf (openTable s) → t ≡ formOf (openTable s) v → cat ≡ labelsOf (openTable s) w → q ≡ Accepted → Opened s t cat
-told-opened s t v cat w q e f l a = go (openTable s) refl (sym e ∙ a) f l
+pub told-opened : (s t cat : List ℕ) (q : Reply) → q ≡ replyOf (openTable s) → Holds (openTable s) t → Labelled (openTable s) cat → q ≡ Accepted → Opened s t cat
+told-opened s t cat q e f l a = go (openTable s) refl (sym e ∙ a) f l
   where
-    go : (o : Judged (List ℕ)) → openTable s ≡ o → replyOf o ≡ Accepted → t ≡ formOf o v → cat ≡ labelsOf o w → Opened s t cat
+    go : (o : Judged (List ℕ)) → openTable s ≡ o → replyOf o ≡ Accepted → Holds o t → Labelled o cat → Opened s t cat
     go (accepted u) d a f l =
         let outcome : openTable s ≡ accepted t = d ∙ ap accepted (sym f) in
         let readable : Readable t = opened-readable s t outcome .0 in

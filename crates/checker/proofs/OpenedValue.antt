@@ -11,7 +11,6 @@ use Rattle.forms.specs.FormAutomaton.{automatonOf}
 use Rattle.refusals.specs.declared.Refusal.{Refusal}
 use Rattle.refusals.specs.Judged.{Judged, _then_}
 use Rattle.refusals.specs.Judged.Judged.{accepted, refused}
-use Rattle.reader.specs.TableReply.{formOf}
 use Rattle.replay.specs.declared.Step.{Step}
 use Rattle.replay.specs.Judge.{judge}
 use Rattle.opening.specs.Opening.{openTable}
@@ -21,11 +20,8 @@ use Rattle.checker.specs.declared.Opened.{Opened}
 use Rattle.checker.specs.OpenedValue.{openedOf, openedRefusal}
 
 -- the value of a refusal
-pub value-refused : (s : List ℕ) (r : Refusal) (t v : List ℕ) → openTable s ≡ refused r → t ≡ formOf (openTable s) v → v ≡ replicate formLength 0
-    → _≡_ {A = Opened} (record { refused = true; refusal = r; form = t }) (openedOf (openTable s))
-value-refused s r t v o e z =
-    let d : t ≡ replicate formLength 0 = e ∙ ap (λ x. formOf x v) o ∙ z in
-    (λ i. record { refused = true; refusal = r; form = d i }) ∙ sym (ap openedOf o)
+pub value-refused : (s : List ℕ) (r : Refusal) → openTable s ≡ refused r → _≡_ {A = Opened} (record { refused = true; refusal = r; form = replicate formLength 0 }) (openedOf (openTable s))
+value-refused s r o = sym (ap openedOf o)
 
 -- what a value that is no refusal says, and one that is
 pub usable : (s : List ℕ) (o : Opened) → o ≡ openedOf (openTable s) → T (not (o .refused)) → openTable s ≡ accepted (o .form)

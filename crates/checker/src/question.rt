@@ -25,43 +25,7 @@ use claims::Asking;
 use claims::Notation;
 use refusals::Refusal;
 
-// Asks a question of an opened table, over memory for its step rows.
-fn answer_over(
-    steps: &mut [u32],
-    form: &[u32],
-    cat: &[u8],
-    question: &[u32],
-    count: usize,
-    rows: &mut [u32],
-    contents: &mut [u32; 5],
-) -> Asking
-    requires { let a : Automaton = automatonOf (now form) in
-        ⌜ (992128 ≤ length (now steps)) × Lent (now form) (now cat) (length (classes a)) × (length (now question) ≡ 96) × (count ≤ 32)
-        × T (fitsQuestion a (rowsOf (now question) count)) × (10784 ≤ length (now rows)) ⌝ }
-    ensures { λ r.
-        let a : Automaton = automatonOf (now (form .entry)) in
-        let rs : List Row = rowsOf (now (question .entry)) count in
-        let k : Option ℕ = failing a (asked rs) in
-        ⌜ (r ≡ askedReply a k)
-        × (now (rows .exit) ≡ shown a (rowFormulas rs) (now (rows .entry)))
-        × (now (contents .exit) ≡ askedContents a k (now (contents .entry))) ⌝ }
-{
-    let n = classes_in(form);
-    relation::fill(form, cat, n, steps);
-    let answer = formulas::ask(steps, form, cat, n, question, count, rows);
-    match answer {
-        formulas::Answer::Yes => Asking::Yes,
-        formulas::Answer::No(class) => {
-            *contents = concretization::class_contents(form, cat, n, class);
-            Asking::No {
-                class: class,
-                registers: forms::registers(form),
-            }
-        }
-    }
-}
-
-// The same, over memory of its own.
+// Asks a question of an opened table.
 fn answer(
     form: &[u32],
     cat: &[u8],
@@ -81,12 +45,23 @@ fn answer(
         × (now (rows .exit) ≡ shown a (rowFormulas rs) (now (rows .entry)))
         × (now (contents .exit) ≡ askedContents a k (now (contents .entry))) ⌝ }
 {
-    let mut steps = [0u32; 992128];
-    answer_over(&mut steps, form, cat, question, count, rows, contents)
+    let n = classes_in(form);
+    sets::clear(rows, 10784);
+    let answer = formulas::ask_with(form, cat, n, question, count, rows);
+    match answer {
+        formulas::Answer::Yes => Asking::Yes,
+        formulas::Answer::No(class) => {
+            *contents = concretization::class_contents(form, cat, n, class);
+            Asking::No {
+                class: class,
+                registers: forms::registers(form),
+            }
+        }
+    }
 }
 
 // Reads a question in this notation to an opened table; a refusal leaves the rows as they are.
-fn read_rows(
+pub(crate) fn read_rows(
     form: &[u32],
     notation: Notation,
     question: &[u8],

@@ -72,11 +72,14 @@ fn opening(table: &[u8]) -> Opened
             },
             form: form,
         },
-        Reply::Refused(r) => Opened {
-            refused: true,
-            refusal: r,
-            form: form,
-        },
+        Reply::Refused(r) => {
+            let none = [0u32; forms::LENGTH];
+            Opened {
+                refused: true,
+                refusal: r,
+                form: none,
+            }
+        }
     }
 }
 

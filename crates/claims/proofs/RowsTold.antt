@@ -28,8 +28,9 @@ use Rattle.lists.specs.Arrays.{Kept}
 use Rattle.lists.specs.Filling.{filled}
 use Rattle.lists.proofs.Arrays.{length-filled, filled-at, filled-out}
 use Rattle.sets.proofs.Laws.{packed-low}
-use Rattle.formulas.specs.Rows.{words, shown}
-use Rattle.formulas.proofs.FrontierRounds.{member-words}
+use Rattle.predecessors.specs.NodeWords.{words}
+use Rattle.formulas.specs.Rows.{shownTo, shown}
+use Rattle.searching.proofs.HeldSets.{member-words}
 use Rattle.formulas.proofs.RowSets.{holding-length}
 use Rattle.formulas.proofs.Buffer.{shown-row, held-formula}
 use Rattle.reach.proofs.StepGraph.{graph-fits}
@@ -56,7 +57,7 @@ module _ (a : Automaton) (rs : List Row) (ws : List ℕ) (long : 10784 ≤ lengt
   bit-shown : (j c : ℕ) → j < 32 → c < 10784 → member (shown a (rowFormulas rs) ws) (10784 * j + c) ≡ getD (getD (map (holding a) (rowFormulas rs)) j []) c false
   bit-shown j c h k =
       let s : List Bool = getD (map (holding a) (rowFormulas rs)) j [] in
-      row-member (shown a (rowFormulas rs) ws) j c k ∙ ap (λ (l : List ℕ). member l c) (shown-row a ws long (rowFormulas rs) (shown a (rowFormulas rs) ws) j h refl)
+      row-member (shown a (rowFormulas rs) ws) j c k ∙ ap (λ (l : List ℕ). member l c) (shown-row 32 a ws long (rowFormulas rs) (shown a (rowFormulas rs) ws) j h refl)
       ∙ member-words s c k
 
   -- bit c of row i of the question, counted from 1
@@ -81,7 +82,7 @@ module _ (a : Automaton) (rs : List Row) (ws : List ℕ) (long : 10784 ≤ lengt
 
   -- words of 32 bits, and what stands behind them
   shown-low : (i : ℕ) → i < 10784 → getD (shown a (rowFormulas rs) ws) i 0 < 2 ^ 32
-  unfolding shown words
+  unfolding shownTo words
   shown-low i h =
       let s : List Bool = getD (map (holding a) (rowFormulas rs)) (i / 337) [] in
       let f : ℕ → ℕ = λ j. getD (words (getD (map (holding a) (rowFormulas rs)) (j / 337) [])) (j % 337) 0 in
@@ -89,7 +90,7 @@ module _ (a : Automaton) (rs : List Row) (ws : List ℕ) (long : 10784 ≤ lengt
       subst (λ k. getD (filled ws 0 f 10784) k 0 < 2 ^ 32) e (subst⁻¹ (λ x. x < 2 ^ 32) (filled-at ws 0 f 10784 i long h) (packed-low (λ c. getD s c false) 337 (i % 337) (omega arith)))
 
   shown-kept : Kept 10784 ws (shown a (rowFormulas rs) ws)
-  unfolding shown
+  unfolding shownTo
   shown-kept = filled-kept ws (λ j. getD (words (getD (map (holding a) (rowFormulas rs)) (j / 337) [])) (j % 337) 0) 10784
 
 -- what the words of a question's rows say of steps with real identifiers is so

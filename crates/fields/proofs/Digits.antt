@@ -14,7 +14,7 @@ use Rattle.columns.proofs.Columns.{width-is}
 use Rattle.fields.specs.Format.{glyphOf, onDigit, digitsFrom, onField, field, fieldIn, nextWidth, onNumber, fieldsAfter, fields}
 use Rattle.fields.specs.declared.Glyph.{Glyph}
 use Rattle.fields.specs.declared.Glyph.the-variants.{Blank, Digit, Other}
-use Rattle.fields.proofs.Simulation.{digit-low}
+use Rattle.fields.proofs.LineParts.{digit-low}
 
 pub no-number : {A : Type 0} {B : Type 0} {w : B} → none ≡ some w → A
 no-number e = let z : _≡_ {A = ℕ} 0 1 = cc in absurd (omega arith)

@@ -1,4 +1,4 @@
 -- What the contracts of the formulas' rows cite.
 pub mod Rows
-pub mod RoundParts
 pub mod RowRules
+pub mod Memory

@@ -7,14 +7,14 @@ use Prim.Native.Nat.{ℕ}
 use native.Mathlib.Omega.{arith}
 use lib.Dec.{T}
 use Rattle.refusals.specs.declared.Refusal.{Refusal}
-use Rattle.refusals.specs.Judged.{Judged, refusal, _then_, require}
+use Rattle.refusals.specs.Judged.{Judged, refusal, _then_}
 use Rattle.refusals.specs.Judged.Judged.{accepted, refused}
 use Rattle.refusals.proofs.Composed.{then-accepted, required, passes, fails}
 use Rattle.automata.specs.Runs.{permitted}
 use Rattle.forms.specs.FormAutomaton.{automatonOf}
 use Rattle.forms.specs.Readable.{Readable}
 use Rattle.reader.specs.Table.{readTable}
-use Rattle.reader.specs.TableReply.{replyOf, formOf}
+use Rattle.reader.specs.TableReply.{replyOf}
 use Rattle.reader.specs.declared.Reply.{Reply}
 use Rattle.reader.specs.declared.Reply.the-variants.{Accepted, Refused}
 use Rattle.reader.proofs.LegalForms.{legal}
@@ -22,7 +22,7 @@ use Rattle.reader.proofs.WellRead.{table-well-formed}
 use Rattle.conditions.specs.Startable.{startable}
 use Rattle.conditions.proofs.StartsExact.{startable-exact}
 use Rattle.opening.specs.Opening.{withStart, openTable}
-use Rattle.opening.specs.OpenedLabels.{labelsOf}
+use Rattle.opening.specs.OpenedLabels.{classLabels, Opened}
 
 -- a table that is read has a readable form
 pub read-readable : (s t : List ℕ) → readTable s ≡ accepted t → Readable t
@@ -38,16 +38,23 @@ pub no-start : (s t : List ℕ) → readTable s ≡ accepted t → startable (au
 unfolding openTable
 no-start s t e h = ap (λ j. j then withStart) e ∙ fails (refusal 7 1 0) (λ ok. accepted t) (startable (automatonOf t)) h
 
--- a reader's refusal is that of opening, which leaves the buffers alone
-pub not-read : (s : List ℕ) (q : Reply) (r : Refusal) → q ≡ replyOf (readTable s) → q ≡ Refused r
-    → (q ≡ replyOf (openTable s)) × ((v : List ℕ) → v ≡ formOf (openTable s) v) × ((v : List ℕ) → v ≡ labelsOf (openTable s) v)
+-- the reply, form and labels of a table that can be used, and of a refusal
+pub opened-told : (o : Judged (List ℕ)) (u cat : List ℕ) → o ≡ accepted u → cat ≡ classLabels u → Opened o Accepted u cat
+opened-told (accepted t) u cat e l = let same : u ≡ t = cc in (refl, same, l ∙ ap classLabels same)
+opened-told (refused x) u cat e l = let z : _≡_ {A = ℕ} 0 1 = cc in absurd (omega arith)
+
+pub refusal-told : (o : Judged (List ℕ)) (x : Refusal) (q : Reply) (u cat : List ℕ) → o ≡ refused x → q ≡ Refused x → Opened o q u cat
+refusal-told (accepted t) x q u cat e d = let z : _≡_ {A = ℕ} 0 1 = cc in absurd (omega arith)
+refusal-told (refused y) x q u cat e d = (cc, tt, tt)
+
+-- a reader's refusal is that of opening
+pub not-read : (s : List ℕ) (q : Reply) (x : Refusal) → q ≡ replyOf (readTable s) → q ≡ Refused x → openTable s ≡ refused x
 unfolding openTable
-not-read s q r e d = go (readTable s) (sym e ∙ d)
+not-read s q x e d = go (readTable s) (sym e ∙ d)
   where
-    go : (j : Judged (List ℕ)) → replyOf j ≡ Refused r
-        → (q ≡ replyOf (j then withStart)) × ((v : List ℕ) → v ≡ formOf (j then withStart) v) × ((v : List ℕ) → v ≡ labelsOf (j then withStart) v)
+    go : (j : Judged (List ℕ)) → replyOf j ≡ Refused x → (j then withStart) ≡ refused x
     go (accepted t) h = let z : _≡_ {A = ℕ} 0 1 = cc in absurd (omega arith)
-    go (refused n) h = (d ∙ sym h, λ v. refl, λ v. refl)
+    go (refused n) h = cc
 
 -- a table that is opened is one that is read, and has a start
 opened-means : (s t : List ℕ) → openTable s ≡ accepted t → (readTable s ≡ accepted t) × (startable (automatonOf t) ≡ true)

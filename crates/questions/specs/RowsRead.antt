@@ -1,10 +1,20 @@
--- The reader of a question between two bytes, as the machine of crate fields has it: the code keeps the form in a lent buffer, and a row for each line.
+-- The reader of a question over a lent buffer, with the shape of the code. Not to be believed.
 -- Assumes nothing.
 use Prim.Native.Nat.{ℕ}
 use mathlib.Core.List.{List}
-use Rattle.fields.specs.Machine.{Reading}
-use Rattle.fields.specs.declared.Lines.{Lines}
-use Rattle.questions.specs.Question.{Rows}
+use mathlib.Core.Path.{_≡_}
+use Rattle.refusals.specs.Judged.{Judged}
+use Rattle.refusals.specs.Judged.Judged.{accepted, refused}
+use Rattle.fields.specs.Format.{pieces}
+use Rattle.fields.specs.LineFiles.{readLines}
+use Rattle.questions.specs.declared.Counts.{Counts}
+use Rattle.questions.specs.Question.{Rows, questionRules}
 
-abbrev pub reading : Lines → List ℕ → Reading Rows
-reading l t = record { state = record { form = t; count = l .lines }; lines = l }
+-- the rows of a file, written to the form t
+abbrev pub linesFrom : Counts → List ℕ → List ℕ → Judged Rows
+linesFrom c t s = readLines (questionRules c) 2 0 (record { form = t; count = 0 }) (pieces s .0) (pieces s .1)
+
+-- the buffer u holds the rows that are read; after a refusal nothing is said of it
+abbrev pub Holds : Judged Rows → List ℕ → Type 0
+Holds (accepted q) u = u ≡ q .form
+Holds (refused r) u = Unit {0}

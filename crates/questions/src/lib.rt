@@ -1,17 +1,19 @@
-// The reader of questions: the rules for a row, and the loop over the bytes.
+// The reader of questions: the rules for a row, and the loop over the lines.
 ghost use mathlib.Core.Path.{_≡_};
-ghost use Prim.Native.Nat.{_≤_};
-ghost use lib.ListN.{length};
+ghost use Prim.Native.Nat.{_+_, _≤_};
+ghost use lib.ListN.{length, getD};
 ghost use Rattle.automata.specs.Questions.{row};
-ghost use Rattle.fields.specs.Machine.{between, judgeRead, ended, fed, run};
+ghost use Rattle.columns.specs.Widths.{largest};
+ghost use Rattle.refusals.specs.Judged.{refusal};
+ghost use Rattle.fields.specs.LineRead.{judgeRead};
+ghost use Rattle.forms.specs.QuestionForm.{put};
 ghost use Rattle.forms.specs.Shapes.{useOf};
-ghost use Rattle.questions.specs.QuestionRules.{judgeNumber, judgeField, judgeRow, judgeFields};
-ghost use Rattle.questions.specs.Question.{questionRules, readQuestion};
+ghost use Rattle.questions.specs.QuestionRules.{judgeNumber, judgeField, judgeRow, rowIn, judgeFields};
+ghost use Rattle.questions.specs.Question.{readQuestion};
 ghost use Rattle.questions.specs.QuestionReply.{replyOf, formOf};
-ghost use Rattle.questions.specs.RowsRead.{reading};
+ghost use Rattle.questions.specs.RowsRead.{linesFrom, Holds};
 use columns::Sheet;
 use fields::Line;
-use fields::Lines;
 use forms::Question;
 use forms::Use;
 use refusals::Refusal;
@@ -75,68 +77,81 @@ pub fn judge_row(c: Counts, n: u32, k: u32, a: u32, b: u32) -> u32
     judge_numbers(c, n, k as u64, a as u64, b as u64)
 }
 
-// The refusal of a line, or 0.
-fn judge_line(c: Counts, n: u32, l: Line) -> u32
-    ensures { λ r. ⌜ r ≡ judgeRead (judgeFields c n) l ⌝ }
+// The refusal of a line of so many fields, or 0.
+fn judge_fields(c: Counts, n: u32, count: usize, f: [u64; 6]) -> u32
+    ensures { λ r. ⌜ r ≡ judgeFields c n count f ⌝ }
 {
-    let f = l.fields;
-    if l.good {
-        if l.count == 3 {
-            return judge_numbers(c, n, f[0], f[1], f[2]);
-        }
+    if count == 3 {
+        return judge_numbers(c, n, f[0], f[1], f[2]);
     }
     2
 }
 
-// Byte 10.
-fn end_line(c: Counts, r: Lines, t: &mut [u32]) -> Lines
-    requires { ⌜ r .lines ≤ 1000 ⌝ }
-    ensures { λ q. ⌜ reading q (now (t .exit)) ≡ ended (questionRules c) (reading r (now (t .entry))) ⌝ }
+// The refusal of a line as it is read, with the numbers f, or 0.
+fn judge_line(c: Counts, n: u32, l: Line, f: [u64; 6]) -> u32
+    ensures { λ r. ⌜ r ≡ judgeRead (judgeFields c n) l f ⌝ }
 {
-    let n = r.lines;
-    let l = fields::close(r.line);
-    let x = judge_line(c, n, l);
-    let q = fields::with_line(r, x);
-    if x == 0 {
-        let f = l.fields;
-        let k = fields::narrow(f[0]);
-        let a = fields::narrow(f[1]);
-        let b = fields::narrow(f[2]);
-        forms::put_question_row(t, n, k, a, b);
-        return q;
+    match l {
+        Line::Fields(count) => judge_fields(c, n, count, f),
+        Line::Spoilt => 2,
     }
-    q
 }
 
-// The next byte.
-fn feed(c: Counts, r: Lines, b: u8, t: &mut [u32]) -> Lines
-    requires { ⌜ r .lines ≤ 1000 ⌝ }
-    ensures { λ q. ⌜ reading q (now (t .exit)) ≡ fed (questionRules c) (reading r (now (t .entry))) b ⌝ }
+// A line is accepted: it is row n.
+fn accept(n: u32, f: [u64; 6], t: &mut [u32])
+    requires { ⌜ (getD f 0 0 ≤ largest) × (getD f 1 0 ≤ largest) × (getD f 2 0 ≤ largest) ⌝ }
+    ensures { λ r. ⌜ now (t .exit) ≡ put (now (t .entry)) n (rowIn f) ⌝ }
 {
-    if fields::ends_line(r, b) {
-        return end_line(c, r, t);
-    }
-    fields::with_byte(Sheet::Plain, r, b)
-}
-
-// The whole file, byte after byte.
-fn read_bytes(c: Counts, s: &[u8], t: &mut [u32]) -> Lines
-    requires { ⌜ length (now s) ≤ 608 ⌝ }
-    ensures { λ r. ⌜ (reading r (now (t .exit)) ≡ run (questionRules c) (reading (between 0) (now (t .entry))) (now (s .entry))) × (r .lines ≤ 608) ⌝ }
-{
-    let mut r = fields::between_lines(0);
-    let mut i = 0;
-    while i < s.len() {
-        r = feed(c, r, s[i], t);
-        i += 1;
-    }
-    r
+    let k = fields::narrow(f[0]);
+    let a = fields::narrow(f[1]);
+    let b = fields::narrow(f[2]);
+    forms::put_question_row(t, n, k, a, b);
 }
 
 pub enum Reply {
     // with the number of rows
     Accepted(usize),
     Refused(Refusal),
+}
+
+// The refusal of the line after these.
+fn refused_after(lines: u32, number: u32) -> Reply
+    requires { ⌜ lines ≤ 1000 ⌝ }
+    ensures { λ r. ⌜ r ≡ Reply.Refused (refusal number 2 (lines + 1)) ⌝ }
+{
+    Reply::Refused(Refusal {
+        number: number,
+        file: 2,
+        line: lines + 1,
+    })
+}
+
+// The whole file, line after line.
+fn read_lines(c: Counts, s: &[u8], t: &mut [u32]) -> Reply
+    requires { ⌜ length (now s) ≤ 608 ⌝ }
+    ensures { λ r. ⌜ (r ≡ replyOf (linesFrom c (now (t .entry)) (now (s .entry)))) × Holds (linesFrom c (now (t .entry)) (now (s .entry))) (now (t .exit)) ⌝ }
+{
+    let mut lines: u32 = 0;
+    let mut i = 0;
+    while i < s.len() {
+        let end = fields::line_end(s, i);
+        if s.len() <= end {
+            return refused_after(lines, 2);
+        }
+        let mut f = [0u64; 6];
+        let l = fields::read_line(Sheet::Plain, s, i, end, &mut f);
+        let x = judge_line(c, lines, l, f);
+        if x != 0 {
+            return refused_after(lines, x);
+        }
+        accept(lines, f, t);
+        lines += 1;
+        i = end + 1;
+    }
+    if 0 < lines {
+        return Reply::Accepted(lines as usize);
+    }
+    refused_after(lines, 2)
 }
 
 // Reads a question to a table with these counts; a refusal leaves the rows as they are.
@@ -164,16 +179,12 @@ pub fn read_question(
         locations: locations,
     };
     let mut form = [0u32; forms::QUESTION_LENGTH];
-    let r = read_bytes(c, s, &mut form);
-    let n = r.lines;
-    let x = fields::at_end(r, 0 < n);
-    if x == 0 {
-        *rows = form;
-        return Reply::Accepted(n as usize);
+    let reply = read_lines(c, s, &mut form);
+    match reply {
+        Reply::Accepted(n) => {
+            *rows = form;
+            Reply::Accepted(n)
+        }
+        Reply::Refused(r) => Reply::Refused(r),
     }
-    Reply::Refused(Refusal {
-        number: x,
-        file: 2,
-        line: n + 1,
-    })
 }

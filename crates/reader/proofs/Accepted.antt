@@ -8,8 +8,9 @@ use borrow.Author.Tests.{leb-true, leb-false, ltb-true, eqb-true, eq-eqb, not-tr
 use native.Mathlib.Omega.{arith}
 use lib.Dec.{T, leb, ltb, eqb}
 use Rattle.columns.specs.Widths.{largest}
-use Rattle.fields.specs.Machine.{judgeRead}
+use Rattle.fields.specs.LineRead.{judgeRead}
 use Rattle.fields.specs.declared.Line.{Line}
+use Rattle.fields.specs.declared.Line.the-variants.{Fields, Spoilt}
 use Rattle.graphs.specs.Lists.{allOf}
 use Rattle.automata.specs.WellFormed.{inside}
 use Rattle.reader.specs.declared.Progress.{Progress}
@@ -122,13 +123,10 @@ pub line-issued : (p : Progress) (n : ℕ) (f : List ℕ) → judgeLine p n f �
 unfolding inRange
 line-issued p n f z = and2 (allOf (λ v. leb v largest) f) (fitFrom p true (kindOf (at f 0) .fields) f 1) (line-passed p n f z .1) .0
 
--- of a line that the machine has read
-pub read-issued : (p : Progress) (l : Line) (n : ℕ) → n ≡ judgeRead (judgeLine p) l → n ≡ 0 → T (allOf (λ v. leb v largest) (l .fields))
-read-issued p l n e z = by (l .good) (sym e ∙ z)
-  where
-    by : (k : Bool) → cond k (judgeLine p (l .count) (l .fields)) 2 ≡ 0 → T (allOf (λ v. leb v largest) (l .fields))
-    by true e = subst⁻¹ T (line-issued p (l .count) (l .fields) e) tt
-    by false e = absurd (omega arith)
+-- of a line as it is read
+pub read-issued : (p : Progress) (l : Line) (f : List ℕ) (n : ℕ) → n ≡ judgeRead (judgeLine p) l f → n ≡ 0 → T (allOf (λ v. leb v largest) f)
+read-issued p (Fields m) f n e z = subst⁻¹ T (line-issued p m f (sym e ∙ z)) tt
+read-issued p Spoilt f n e z = absurd (omega arith)
 
 no-kind : {A : Type 0} → false ≡ true → A
 no-kind e = let z : _≡_ {A = ℕ} 0 1 = cc in absurd (omega arith)

@@ -2,32 +2,38 @@
 use Prim.Native.Nat.{ℕ, _≤_, _<_}
 use mathlib.Core.Bool.{true}
 use mathlib.Core.List.{List, [], _∷_}
-use mathlib.Core.Path.{_≡_, refl, sym, _∙_, ap}
+use mathlib.Core.Path.{_≡_, refl, sym, ap}
 use borrow.Author.Tests.{lt-leb}
 use native.Mathlib.Omega.{arith}
 use lib.Dec.{eqb}
 use Rattle.refusals.specs.Judged.{Judged, _then_}
 use Rattle.refusals.specs.Judged.Judged.{accepted, refused}
+use Rattle.refusals.specs.declared.Refusal.{Refusal}
 use Rattle.columns.specs.Widths.{largest}
 use Rattle.fields.specs.LineFiles.{readFile}
 use Rattle.fields.proofs.LineFiles.{Numbered, file-numbers}
 use Rattle.reader.specs.declared.Progress.{Progress}
 use Rattle.reader.specs.declared.Kind.{Kind}
 use Rattle.reader.specs.declared.Reply.{Reply}
-use Rattle.reader.specs.declared.Reply.the-variants.{Accepted}
+use Rattle.reader.specs.declared.Reply.the-variants.{Accepted, Refused}
 use Rattle.reader.specs.TableRules.{at, kindAt, expected, crowded, inRange, inOrder, judgeValues, judgeLine}
 use Rattle.reader.specs.Table.{Read, tableRules, blankForm, readForm}
-use Rattle.reader.specs.TableReply.{replyOf, formOf}
+use Rattle.reader.specs.TableReply.{Filled}
 use Rattle.graphs.proofs.Lists.{cond-le}
 
 -- a caller that is told `Accepted` has the form of the table
-pub accepted-table : (o : Judged (List ℕ)) (v : List ℕ) → replyOf o ≡ Accepted → o ≡ accepted (formOf o v)
-accepted-table (accepted u) v e = refl
-accepted-table (refused r) v e = let z : _≡_ {A = ℕ} 0 1 = cc in absurd (omega arith)
+pub told : (o : Judged (List ℕ)) (r : Reply) (u : List ℕ) → Filled o r u → r ≡ Accepted → o ≡ accepted u
+told (accepted t) r u f e = ap accepted (sym (f .1))
+told (refused x) r u f e = let is = f .0 in let z : _≡_ {A = ℕ} 0 1 = cc in absurd (omega arith)
 
--- of a reader's reply r and form u, where the form was v
-pub told : (o : Judged (List ℕ)) (r : Reply) (v u : List ℕ) → r ≡ replyOf o → u ≡ formOf o v → r ≡ Accepted → o ≡ accepted u
-told o r v u e f g = accepted-table o v (sym e ∙ g) ∙ ap accepted (sym f)
+-- what is accepted or refused, as it is filled
+pub filled-accepted : (o : Judged (List ℕ)) (u : List ℕ) → o ≡ accepted u → Filled o Accepted u
+filled-accepted (accepted t) u e = (refl, cc)
+filled-accepted (refused x) u e = let z : _≡_ {A = ℕ} 0 1 = cc in absurd (omega arith)
+
+pub filled-refused : (o : Judged (List ℕ)) (x : Refusal) (r : Reply) (u : List ℕ) → o ≡ refused x → r ≡ Refused x → Filled o r u
+filled-refused (accepted t) x r u e d = let z : _≡_ {A = ℕ} 0 1 = cc in absurd (omega arith)
+filled-refused (refused y) x r u e d = (cc, tt)
 
 -- A number that is too large
 

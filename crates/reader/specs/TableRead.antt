@@ -1,14 +1,20 @@
--- The reader of a table between two bytes, as the machine of crate fields has it: the code keeps the form in a lent buffer.
+-- The reader of a table between two lines, with the shape of the code. Not to be believed.
 -- Assumes nothing.
 use Prim.Native.Nat.{ℕ, _≤_}
 use mathlib.Core.List.{List}
-use Rattle.fields.specs.Machine.{Reading}
+use Rattle.refusals.specs.Judged.{Judged, _then_}
+use Rattle.refusals.specs.Judged.Judged.{accepted}
+use Rattle.fields.specs.Format.{pieces}
+use Rattle.fields.specs.LineFiles.{readLines}
 use Rattle.reader.specs.declared.Progress.{Progress}
-use Rattle.reader.specs.declared.Reader.{Reader}
-use Rattle.reader.specs.Table.{Read}
+use Rattle.reader.specs.Table.{Read, tableRules}
 
-abbrev pub reading : Reader → List ℕ → Reading Read
-reading r t = record { state = record { progress = r .progress; form = t }; lines = r .lines }
+abbrev pub formIn : Judged Read → Judged (List ℕ)
+formIn o = o then (λ x. accepted (x .form))
+
+-- the form t with the lines of a file, the first after p
+abbrev pub linesFrom : ℕ → Progress → List ℕ → List ℕ → Judged (List ℕ)
+linesFrom file p t s = formIn (readLines tableRules file 0 (record { progress = p; form = t }) (pieces s .0) (pieces s .1))
 
 -- the counters are at most n, as after n lines
 pub record Small (p : Progress) (n : ℕ) : Type 0 where

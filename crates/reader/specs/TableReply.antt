@@ -2,6 +2,7 @@
 -- Assumes nothing.
 use Prim.Native.Nat.{ℕ}
 use mathlib.Core.List.{List}
+use mathlib.Core.Path.{_≡_}
 use Rattle.refusals.specs.Judged.{Judged}
 use Rattle.refusals.specs.Judged.Judged.{accepted, refused}
 use Rattle.reader.specs.declared.Reply.{Reply}
@@ -11,7 +12,11 @@ abbrev pub replyOf : Judged (List ℕ) → Reply
 replyOf (accepted t) = Accepted
 replyOf (refused r) = Refused r
 
--- a refusal leaves the form u as it was
-abbrev pub formOf : Judged (List ℕ) → List ℕ → List ℕ
-formOf (accepted t) u = t
-formOf (refused r) u = u
+-- the form u is the one that is read; after a refusal nothing is said of it
+abbrev pub Holds : Judged (List ℕ) → List ℕ → Type 0
+Holds (accepted t) u = u ≡ t
+Holds (refused r) u = Unit {0}
+
+-- what is read, or its refusal, as the reply and the lent form u say it
+abbrev pub Filled : Judged (List ℕ) → Reply → List ℕ → Type 0
+Filled o reply u = (reply ≡ replyOf o) × Holds o u

@@ -1,20 +1,20 @@
-// The reader of tables and targets: the rules for their lines, and the loop over their bytes.
+// The reader of tables and targets: the rules for their lines, and the loop over them.
 ghost use mathlib.Core.Path.{_≡_};
 ghost use mathlib.Core.Bool.{true, cond};
-ghost use Prim.Native.Nat.{ℕ, _+_, _≤_};
+ghost use Prim.Native.Nat.{_+_, _≤_};
 ghost use lib.Dec.{T, leb};
 ghost use lib.ListN.{length};
 ghost use Rattle.columns.specs.Widths.{largest};
 ghost use Rattle.graphs.specs.Lists.{allOf};
 ghost use Rattle.automata.specs.WellFormed.{inside};
-ghost use Rattle.fields.specs.Machine.{between, judgeRead, ended, fed, run};
+ghost use Rattle.refusals.specs.Judged.{refusal};
+ghost use Rattle.fields.specs.LineRead.{judgeRead};
 ghost use Rattle.reader.specs.TableRules.{at, kindOf, hasTerm, kindAt, expected, fitFrom, inRange, judgeValues, judgeLine, advance, further, placed, complete};
-ghost use Rattle.reader.specs.Table.{tableRules, readForm, readTable, readTarget};
-ghost use Rattle.reader.specs.TableReply.{replyOf, formOf};
-ghost use Rattle.reader.specs.TableRead.{reading, Small};
+ghost use Rattle.reader.specs.Table.{blankForm, readForm, readTable, readTarget};
+ghost use Rattle.reader.specs.TableReply.{Filled};
+ghost use Rattle.reader.specs.TableRead.{linesFrom, Small};
 use columns::Sheet;
 use fields::Line;
-use fields::Lines;
 use forms::Form;
 use refusals::Refusal;
 
@@ -251,16 +251,15 @@ fn judge_fields(p: Progress, n: usize, f: [u64; 6]) -> u32
     2
 }
 
-// The refusal of a line, or 0.
-fn judge_line(p: Progress, l: Line) -> u32
+// The refusal of a line as it is read, with the numbers f, or 0.
+fn judge_line(p: Progress, l: Line, f: [u64; 6]) -> u32
     requires { ⌜ Small p 50000 ⌝ }
-    ensures { λ r. ⌜ r ≡ judgeRead (judgeLine p) l ⌝ }
+    ensures { λ r. ⌜ r ≡ judgeRead (judgeLine p) l f ⌝ }
 {
-    let f = l.fields;
-    if l.good {
-        return judge_fields(p, l.count, f);
+    match l {
+        Line::Fields(n) => judge_fields(p, n, f),
+        Line::Spoilt => 2,
     }
-    2
 }
 
 fn pick(c: bool, a: u32, b: u32) -> u32
@@ -322,72 +321,6 @@ fn accept(p: Progress, f: [u32; 6], t: &mut [u32]) -> Progress
     advanced(p, k, f, params)
 }
 
-// The state of the reader of a table between two bytes.
-pub struct Reader {
-    pub progress: Progress,
-    pub lines: Lines,
-}
-
-// Byte 10.
-fn end_line(r: Reader, t: &mut [u32]) -> Reader
-    requires { ⌜ Small (r .progress) 50000 × (r .lines .lines ≤ 50000) ⌝ }
-    ensures { λ q. ⌜ reading q (now (t .exit)) ≡ ended tableRules (reading r (now (t .entry))) ⌝ }
-{
-    let p = r.progress;
-    let lines = r.lines;
-    let l = fields::close(lines.line);
-    let n = judge_line(p, l);
-    let next = fields::with_line(lines, n);
-    if n == 0 {
-        let f = l.fields;
-        let row = row_of(f);
-        let q = accept(p, row, t);
-        return Reader {
-            progress: q,
-            lines: next,
-        };
-    }
-    Reader {
-        progress: p,
-        lines: next,
-    }
-}
-
-// The next byte.
-fn feed(r: Reader, b: u8, t: &mut [u32]) -> Reader
-    requires { ⌜ Small (r .progress) 50000 × (r .lines .lines ≤ 50000) ⌝ }
-    ensures { λ q. ⌜ reading q (now (t .exit)) ≡ fed tableRules (reading r (now (t .entry))) b ⌝ }
-{
-    let lines = r.lines;
-    if fields::ends_line(lines, b) {
-        return end_line(r, t);
-    }
-    let p = r.progress;
-    let next = fields::with_byte(Sheet::Table, lines, b);
-    Reader {
-        progress: p,
-        lines: next,
-    }
-}
-
-// The whole file, byte after byte.
-fn read_bytes(p: Progress, s: &[u8], t: &mut [u32]) -> Reader
-    requires { ⌜ (length (now s) ≤ 40000) × Small p 0 ⌝ }
-    ensures { λ r. ⌜ (reading r (now (t .exit)) ≡ run tableRules (record { state = record { progress = p; form = now (t .entry) }; lines = between 0 }) (now (s .entry))) × (r .lines .lines ≤ 40000) ⌝ }
-{
-    let lines = fields::between_lines(0);
-    let mut r = Reader {
-        progress: p,
-        lines: lines,
-    };
-    let mut i = 0;
-    while i < s.len() {
-        r = feed(r, s[i], t);
-        i += 1;
-    }
-    r
-}
-
 pub enum Reply {
     Accepted,
     Refused(Refusal),
@@ -400,10 +333,52 @@ fn is_complete(p: Progress) -> bool
     (4 <= p.stage) & (p.transitions <= p.transition)
 }
 
-// Reads the lines of a file to the form t; a refusal leaves t as it is.
+// The refusal of the line after these.
+fn refused_after(lines: u32, number: u32, file: u32) -> Reply
+    requires { ⌜ lines ≤ 50000 ⌝ }
+    ensures { λ r. ⌜ r ≡ Reply.Refused (refusal number file (lines + 1)) ⌝ }
+{
+    Reply::Refused(Refusal {
+        number: number,
+        file: file,
+        line: lines + 1,
+    })
+}
+
+// The whole file, line after line.
+fn read_lines(from: Progress, file: u32, s: &[u8], t: &mut [u32]) -> Reply
+    requires { ⌜ (length (now s) ≤ 40000) × Small from 0 ⌝ }
+    ensures { λ r. ⌜ Filled (linesFrom file from (now (t .entry)) (now (s .entry))) r (now (t .exit)) ⌝ }
+{
+    let mut p = from;
+    let mut lines: u32 = 0;
+    let mut i = 0;
+    while i < s.len() {
+        let end = fields::line_end(s, i);
+        if s.len() <= end {
+            return refused_after(lines, 2, file);
+        }
+        let mut f = [0u64; 6];
+        let l = fields::read_line(Sheet::Table, s, i, end, &mut f);
+        let n = judge_line(p, l, f);
+        if n != 0 {
+            return refused_after(lines, n, file);
+        }
+        let row = row_of(f);
+        p = accept(p, row, t);
+        lines += 1;
+        i = end + 1;
+    }
+    if is_complete(p) {
+        return Reply::Accepted;
+    }
+    refused_after(lines, 2, file)
+}
+
+// Reads the lines of a file to the form t, which has none.
 fn read_file(p: Progress, file: u32, limit: usize, s: &[u8], t: &mut Form) -> Reply
-    requires { ⌜ (limit ≤ 40000) × Small p 0 ⌝ }
-    ensures { λ r. ⌜ (r ≡ replyOf (readForm file limit p (now (s .entry)))) × (now (t .exit) ≡ formOf (readForm file limit p (now (s .entry))) (now (t .entry))) ⌝ }
+    requires { ⌜ (limit ≤ 40000) × Small p 0 × (now t ≡ blankForm) ⌝ }
+    ensures { λ r. ⌜ Filled (readForm file limit p (now (s .entry))) r (now (t .exit)) ⌝ }
 {
     if limit < s.len() {
         return Reply::Refused(Refusal {
@@ -412,24 +387,13 @@ fn read_file(p: Progress, file: u32, limit: usize, s: &[u8], t: &mut Form) -> Re
             line: 0,
         });
     }
-    let mut form = [0u32; forms::LENGTH];
-    let r = read_bytes(p, s, &mut form);
-    let lines = r.lines;
-    let n = fields::at_end(lines, is_complete(r.progress));
-    if n == 0 {
-        *t = form;
-        return Reply::Accepted;
-    }
-    Reply::Refused(Refusal {
-        number: n,
-        file: file,
-        line: lines.lines + 1,
-    })
+    read_lines(p, file, s, t)
 }
 
-// Reads a table to the form t; a refusal leaves t as it is.
+// Reads a table to the form t, which has no lines.
 pub fn read_table(s: &[u8], t: &mut Form) -> Reply
-    ensures { λ r. ⌜ (r ≡ replyOf (readTable (now (s .entry)))) × (now (t .exit) ≡ formOf (readTable (now (s .entry))) (now (t .entry))) ⌝ }
+    requires { ⌜ now t ≡ blankForm ⌝ }
+    ensures { λ r. ⌜ Filled (readTable (now (s .entry))) r (now (t .exit)) ⌝ }
 {
     let p = Progress {
         registers: 0,
@@ -449,9 +413,10 @@ pub fn read_table(s: &[u8], t: &mut Form) -> Reply
     read_file(p, 1, 40000, s, t)
 }
 
-// Reads a target of the table with the form `table` to the form t; a refusal leaves t as it is.
+// Reads a target of the table with the form `table` to the form t, which has no lines.
 pub fn read_target(table: &[u32], s: &[u8], t: &mut Form) -> Reply
-    ensures { λ r. ⌜ (r ≡ replyOf (readTarget (now (table .entry)) (now (s .entry)))) × (now (t .exit) ≡ formOf (readTarget (now (table .entry)) (now (s .entry))) (now (t .entry))) ⌝ }
+    requires { ⌜ now t ≡ blankForm ⌝ }
+    ensures { λ r. ⌜ Filled (readTarget (now (table .entry)) (now (s .entry))) r (now (t .exit)) ⌝ }
 {
     let p = Progress {
         registers: forms::cell(table, forms::COUNTS_ROW, forms::REGISTERS),

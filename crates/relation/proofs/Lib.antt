@@ -1,10 +1,13 @@
--- The lemmas of the relation.
-pub mod Scans
+-- The laws of the relation that other crates cite, and the lemmas of the functions' proofs.
+pub mod SomeEntry
 pub mod Labelling
-pub mod Loops
+pub mod Ranks
 pub mod Marks
+pub mod Unnamed
+pub mod Levels
+pub mod PlanFilling
 pub mod Steps
-pub mod MarkAdditions
+pub mod PatternRoom
 pub mod PatternsExact
 pub mod Memory
 pub mod Placing

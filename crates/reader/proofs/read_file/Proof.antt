@@ -1,10 +1,11 @@
 -- `reader::read_file` meets its contract. Assumes nothing.
-use borrow.Author.Needs.{needs}
-use mathlib.Core.Path.{_∙_, ap}
-use Rattle.fields.specs.Machine.{verdict}
-use Rattle.fields.proofs.LineFiles.{read-long, read-accepted, read-refused}
+use mathlib.Core.Path.{refl, sym, _∙_, ap, subst}
+use native.Mathlib.Omega.{arith}
+use Rattle.fields.proofs.LineFiles.{read-long, read-onward}
 use Rattle.reader.specs.Table.{Read, tableRules, blankForm}
-use Rattle.reader.specs.TableRead.{reading}
+use Rattle.reader.specs.TableRead.{formIn, linesFrom}
+use Rattle.reader.specs.TableReply.{Filled}
+use Rattle.reader.proofs.TableOutcomes.{filled-refused}
 use Rattle.reader.proofs.read_file.Statement.{statement}
 use Rattle.reader.proofs.read_file.Tie as tie
 
@@ -12,40 +13,16 @@ returns : tie.Need-returns
 returns c =
     let a = c .before .before .args in
     let begun : Read = record { progress = a .p; form = blankForm } in
-    let e = read-long tableRules (a .file) (a .limit) begun (a .s .now) (c .if1 .taken) in
-    (rw e, rw e)
+    filled-refused _ _ _ (a .t .now) (ap formIn (read-long tableRules (a .file) (a .s .now) (a .limit) begun (c .if1 .taken))) refl
 
 returns-2 : tie.Need-returns-2
 returns-2 c =
-    let a = c .before .before .before .before .before .before .before .before .before .args in
-    let d = c .before .before .before .before .before .read-bytes in
-    let g = c .before .at-end in
+    let e = c .before .before .before .before in
+    let a = e .args in
+    let d = c .read-lines in
     let begun : Read = record { progress = a .p; form = blankForm } in
-    let e =
-    read-accepted tableRules (a .file) (a .limit) begun (a .s .now) (reading (d .result) (d .last .1 .1 .0)) (c .before .before .before .before .before .before .before .if1 .left) (d .ensures .0)
-    (g .result) (g .ensures ∙ ap (verdict (d .result .lines)) (c .before .before .is-complete .ensures)) (c .if2 .taken) in
-    (rw e, rw e)
-
-returns-3 : tie.Need-returns-3
-returns-3 c =
-    let a = c .before .before .before .before .before .before .before .before .before .before .args in
-    let d = c .before .before .before .before .before .before .read-bytes in
-    let g = c .before .before .at-end in
-    let begun : Read = record { progress = a .p; form = blankForm } in
-    let e =
-    read-refused tableRules (a .file) (a .limit) begun (a .s .now) (reading (d .result) (d .last .1 .1 .0)) (c .before .before .before .before .before .before .before .before .if1 .left) (d .ensures .0)
-    (g .result) (g .ensures ∙ ap (verdict (d .result .lines)) (c .before .before .before .is-complete .ensures)) (c .before .if2 .left) in
-    (rw e, rw e)
+    let same = ap (λ t. linesFrom (a .file) (a .p) t (a .s .now)) (e .pre .2) ∙ sym (ap formIn (read-onward tableRules (a .file) (a .s .now) (a .limit) begun (c .before .before .if1 .left))) in
+    subst (λ o. Filled o (d .result) (d .last .1 .1 .1 .0)) same (d .ensures)
 
 pub read-file-spec : {M : Type 1} → statement M
-read-file-spec =
-    tie.close
-    (tie.spec
-    returns
-    (λ c. search needs)
-    (λ c κs. search needs)
-    (λ c κs. search needs)
-    (λ c κs. search needs)
-    returns-2
-    (λ c. search needs)
-    returns-3)
+read-file-spec = tie.close (tie.spec returns (λ c κs. (omega arith, c .before .before .before .pre .1)) returns-2)

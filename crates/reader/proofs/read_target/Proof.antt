@@ -4,11 +4,7 @@ use Rattle.reader.proofs.read_target.Statement.{statement}
 use Rattle.reader.proofs.read_target.Tie as tie
 
 returns : tie.Need-returns
-returns c =
-    let e = c .read-file .ensures in (
-      simp (← c .before .before .cell3 .ensures, ← c .before .before .before .cell2 .ensures, ← c .before .before .before .before .cell .ensures) (e .0),
-      simp (← c .before .before .cell3 .ensures, ← c .before .before .before .cell2 .ensures, ← c .before .before .before .before .cell .ensures) (e .1),
-    )
+returns c = simp (← c .before .before .cell3 .ensures, ← c .before .before .before .cell2 .ensures, ← c .before .before .before .before .cell .ensures) (c .read-file .ensures)
 
 pub read-target-spec : {M : Type 1} → statement M
 read-target-spec =

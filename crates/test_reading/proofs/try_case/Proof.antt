@@ -4,15 +4,13 @@ use mathlib.Core.Path.{sym}
 use Rattle.reader.proofs.TableOutcomes.{told}
 use Rattle.forms.specs.Readable.{Readable}
 use Rattle.opening.proofs.Opened.{opened-readable}
-use Rattle.refusals.specs.Judged.{Judged}
-use Rattle.refusals.specs.Judged.Judged.{accepted, refused}
 use borrow.Author.Needs.{needs}
 use Rattle.test_reading.proofs.try_case.Statement.{statement}
 use Rattle.test_reading.proofs.try_case.Tie as tie
 
 -- the form of a table that is accepted
 readable : (c : tie.After-enum-told) → Readable (c .before .before .open-table .last .1 .0)
-readable c = let o = c .before .before .open-table .ensures in opened-readable _ _ (told _ _ _ _ (o .0) (o .1) (c .enum-told .given .1)) .0
+readable c = let o = c .before .before .open-table .ensures in opened-readable _ _ (told _ _ _ (o .0, o .1) (c .enum-told .given .1)) .0
 
 slice-aggregate-try-target : tie.Need-slice-aggregate-try-target
 slice-aggregate-try-target c = sym (readable (c .before) .long)

@@ -8,18 +8,9 @@ use Rattle.checker.proofs.editor.maceplateau_reach.Tie as tie
 
 returns : tie.Need-returns
 returns c =
-    let a = c .before .before .before .before .before .before .before .before .before .before .before .before .before .args in
-    let e = c .before .before .before .before .before .reach-over .ensures in
+    let a = c .before .before .before .args in
+    let e = c .reach-code .ensures in
     (e, subst⁻¹ (ReachCodeMeans (a .table .now) (a .target .now)) e (reach-code-means (a .table .now) (a .target .now)))
 
 pub maceplateau-reach-spec : {M : Type 1} → statement M
-maceplateau-reach-spec =
-    tie.close
-    (tie.spec
-    (λ c. search needs)
-    (λ c. search needs)
-    (λ c. search needs)
-    (λ c. search needs)
-    (λ c. search needs)
-    (λ c κs. search needs)
-    returns)
+maceplateau-reach-spec = tie.close (tie.spec (λ c κs. search needs) returns)

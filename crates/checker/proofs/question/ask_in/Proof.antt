@@ -11,7 +11,7 @@ use Rattle.checker.proofs.question.ask_in.Tie as tie
 
 -- the table, once it is accepted
 opened : (c : tie.After-enum-told) → Opened (c .before .before .before .before .before .before .before .before .before .args .table .now) (c .before .before .open-table .last .1 .0) (c .before .before .open-table .last .1 .1 .0)
-opened c = let o = c .before .before .open-table .ensures in told-opened _ _ _ _ _ _ (o .0) (o .1) (o .2) (c .enum-told .given .1)
+opened c = let o = c .before .before .open-table .ensures in told-opened _ _ _ _ (o .0) (o .1) (o .2) (c .enum-told .given .1)
 
 -- and the question
 asked : (c : tie.After-reply2) → Questioned (c .before .before .before .before .before .before .before .before .before .before .before .before .before .before .args .notation) (c .before .before .before .before .before .before .before .before .before .before .before .before .before .before .args .table .now) (c .before .before .before .before .before .before .before .before .before .before .before .before .before .before .args .question .now) (c .before .before .before .before .before .before .before .open-table .last .1 .0) (c .before .before .read-rows .last .1 .1 .1 .0) (c .reply2 .given .0 .0)

@@ -15,7 +15,7 @@ use Rattle.checker.proofs.replaying.replay.Tie as tie
 
 -- the table, once it is accepted
 opened : (c : tie.After-enum-told) → Opened (c .before .before .before .before .before .before .before .before .before .args .table .now) (c .before .before .open-table .last .1 .0) (c .before .before .open-table .last .1 .1 .0)
-opened c = let q = c .before .before .open-table .ensures in told-opened _ _ _ _ _ _ (q .0) (q .1) (q .2) (c .enum-told .given .1)
+opened c = let q = c .before .before .open-table .ensures in told-opened _ _ _ _ (q .0) (q .1) (q .2) (c .enum-told .given .1)
 
 returns : tie.Need-returns
 returns c =

@@ -1,0 +1,5 @@
+-- The theorems that other crates cite.
+pub mod NodeSets
+pub mod Picks
+pub mod QueueSearch
+pub mod Cycles
