@@ -2,32 +2,7 @@
 //! (src/bin/worst.rs) works on.
 
 use crate::tables::{columns, Case};
-
-/// A small generator of random numbers (splitmix64), the same for the same seed everywhere.
-pub struct Random(u64);
-
-impl Random {
-    pub fn new(seed: u64) -> Self {
-        Random(seed)
-    }
-
-    pub fn draw(&mut self) -> u64 {
-        self.0 = self.0.wrapping_add(0x9e37_79b9_7f4a_7c15);
-        let mut z = self.0;
-        z = (z ^ (z >> 30)).wrapping_mul(0xbf58_476d_1ce4_e5b9);
-        z = (z ^ (z >> 27)).wrapping_mul(0x94d0_49bb_1331_11eb);
-        z ^ (z >> 31)
-    }
-
-    /// A number from 0 to n − 1.
-    pub fn below(&mut self, n: usize) -> usize {
-        (self.draw() % n as u64) as usize
-    }
-
-    pub fn pick<T: Copy>(&mut self, from: &[T]) -> T {
-        from[self.below(from.len())]
-    }
-}
+use engine::random::Random;
 
 /// Term, relation, term, as a line has them.
 type Condition = [usize; 5];
@@ -189,7 +164,7 @@ impl Draft {
         if kinds.is_empty() {
             return None;
         }
-        let kind = random.pick(&kinds);
+        let kind = *random.pick(&kinds);
         Some([kind, 1 + random.below(counts[kind - 1])])
     }
 
@@ -236,7 +211,7 @@ impl Draft {
     }
 
     fn arc(&self, random: &mut Random) -> Arc {
-        let parameters = random.pick(&[0, 1, 2, 3, 3, 3]);
+        let parameters = *random.pick(&[0, 1, 2, 3, 3, 3]);
         Arc {
             from: 1 + random.below(self.places),
             to: 1 + random.below(self.places),
@@ -259,7 +234,7 @@ impl Draft {
                 _ => place,
             };
         }
-        let kind = random.pick(&[4, 5, 6, 7, 7, 8, 8, 8, 9, 11, 12, 12, 13, 14, 14, 14]);
+        let kind = *random.pick(&[4, 5, 6, 7, 7, 8, 8, 8, 9, 11, 12, 12, 13, 14, 14, 14]);
         let a = 1 + random.below(i);
         let b = 1 + random.below(i);
         [kind, a, if matches!(kind, 5 | 7 | 9 | 10) { b } else { 0 }]

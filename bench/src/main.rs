@@ -257,33 +257,14 @@ fn hurting(all: bool) {
 fn growing() {
     let arcs = [0, 16, 32, 48, 64];
     let places = [1, 2, 4, 8, 16];
+    let mut cases: Vec<Case> = (0..=5).map(|registers| sized(Worst::Set, registers, 64, 3)).collect();
+    cases.extend(arcs.map(|arcs| sized(Worst::Set, 5, arcs, 3)));
+    cases.extend((0..=3).map(|parameters| sized(Worst::Set, 5, 64, parameters)));
+    cases.extend(places.map(|places| spread(Worst::Set, 5, 64, 3, places)));
     header("growth: reaching", &["plain"]);
-    for registers in 0..=5 {
-        reaching(&sized(Worst::Set, registers, 64, 3));
-    }
-    for arcs in arcs {
-        reaching(&sized(Worst::Set, 5, arcs, 3));
-    }
-    for parameters in 0..=3 {
-        reaching(&sized(Worst::Set, 5, 64, parameters));
-    }
-    for places in places {
-        reaching(&spread(Worst::Set, 5, 64, 3, places));
-    }
-
+    cases.iter().for_each(reaching);
     header("growth: questions", &["plain", "going back"]);
-    for registers in 0..=5 {
-        asking(&sized(Worst::Set, registers, 64, 3));
-    }
-    for arcs in arcs {
-        asking(&sized(Worst::Set, 5, arcs, 3));
-    }
-    for parameters in 0..=3 {
-        asking(&sized(Worst::Set, 5, 64, parameters));
-    }
-    for places in places {
-        asking(&spread(Worst::Set, 5, 64, 3, places));
-    }
+    cases.iter().for_each(asking);
 
     // Rows, where the steps themselves take little.
     header("growth: rows of a question", &["plain", "going back"]);
@@ -301,14 +282,6 @@ fn growing() {
 
 fn run() {
     let all = std::env::args().any(|a| a == "all");
-    let worst_kinds = [
-        Worst::Free,
-        Worst::Set,
-        Worst::Keep,
-        Worst::Fresh,
-        Worst::Idle,
-        Worst::Late,
-    ];
     println!("Medians. Ratio: the checker's time to the plain implementation's. Spread: the middle half of the checker's trials.");
     println!("Buffers: the C functions have working buffers of their own and clear them at each call; the plain implementation");
     println!("allocates and clears its vectors at each call. The smallest table shows what that costs.");
@@ -322,7 +295,7 @@ fn run() {
     for c in mix() {
         reaching(&c);
     }
-    for kind in worst_kinds {
+    for kind in Worst::ALL {
         reaching(&worst(kind));
     }
     reaching(&long_run());
@@ -334,7 +307,7 @@ fn run() {
     for c in mix() {
         asking(&c);
     }
-    for kind in worst_kinds {
+    for kind in Worst::ALL {
         asking(&worst(kind));
     }
     asking(&long_run());

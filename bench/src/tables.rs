@@ -423,6 +423,17 @@ pub enum Worst {
     Late,
 }
 
+impl Worst {
+    pub const ALL: [Worst; 6] = [
+        Worst::Free,
+        Worst::Set,
+        Worst::Keep,
+        Worst::Fresh,
+        Worst::Idle,
+        Worst::Late,
+    ];
+}
+
 const LATE: &str = "p3=p3 p3=p3 p3=p3 p3=p3 p3=p3 p3=p3 p3=p3 p3=p3";
 
 /// Five registers, two constants, sixteen places, 64 arcs of three parameters, four from each place. The target has

@@ -1,6 +1,6 @@
 //! The plain implementation gives what the independent engine gives, and the cases are what they are said to be.
 
-use bench::drafts::{Draft, Random as Drawn};
+use bench::drafts::Draft;
 use bench::plain::{ask, ask_text, reach, Asked, Refusal, Rounds};
 use bench::tables::{
     asked, each_place, fails_late, far_ends, long_run, long_texts, many_losses, many_rounds, mix, padded, sample,
@@ -195,14 +195,7 @@ fn extremes() {
         let found = [1, 2, 3].map(|row| ones(&asked, row));
         assert_eq!((asked.yes, found), (false, [1, 10_783, 0]), "{}", c.name);
     }
-    for kind in [
-        Worst::Free,
-        Worst::Set,
-        Worst::Keep,
-        Worst::Fresh,
-        Worst::Idle,
-        Worst::Late,
-    ] {
+    for kind in Worst::ALL {
         let c = worst(kind);
         assert!(!reach(&c.table, &c.target).expect("a good table").reached);
     }
@@ -263,7 +256,7 @@ fn drafts() {
     }
     let mut draft = Draft::of(&sized(Worst::Set, 2, 16, 2));
     for seed in 0..2000 {
-        let mut random = Drawn::new(seed);
+        let mut random = Random::new(seed);
         draft = draft.changed(&mut random, seed % 2 == 0, 32);
         let (table, question) = (draft.table(), draft.question());
         assert!(reach(&table, &draft.target()).is_ok(), "{seed}");
@@ -271,7 +264,7 @@ fn drafts() {
         assert!(back.is_some() && back == whole, "{seed}");
     }
     for seed in 0..3 {
-        let draft = Draft::random(&mut Drawn::new(seed), 32);
+        let draft = Draft::random(&mut Random::new(seed), 32);
         assert!(reach(&draft.table(), &draft.target()).is_ok(), "{seed}");
     }
 }

@@ -14,12 +14,13 @@
 
 use bench::checker;
 use bench::clock::{now, short};
-use bench::drafts::{Draft, Random};
+use bench::drafts::Draft;
 use bench::plain::{self, Rounds};
 use bench::tables::{
     at_limits, each_place, fails_late, far_ends, long_run, many_losses, many_rounds, mix, padded, spaced, star,
     vain_first, worst, Star, Worst,
 };
+use engine::random::Random;
 use std::fs;
 use std::hint::black_box;
 use std::process::Command;
@@ -292,14 +293,6 @@ impl Search {
 
 /// The tables that are known to hurt.
 fn starts(asking: bool, rows: usize) -> Vec<Draft> {
-    let kinds = [
-        Worst::Set,
-        Worst::Free,
-        Worst::Keep,
-        Worst::Fresh,
-        Worst::Idle,
-        Worst::Late,
-    ];
     let mut cases = vec![fails_late(), long_run()];
     if asking {
         let left = |first: usize| rows.saturating_sub(first).max(1);
@@ -317,7 +310,7 @@ fn starts(asking: bool, rows: usize) -> Vec<Draft> {
         }
         cases.push(each_place(Worst::Set));
     } else {
-        cases.extend(kinds.map(worst));
+        cases.extend(Worst::ALL.map(worst));
         cases.extend([vain_first(1), star(Star::Wide, 12, 1), star(Star::Narrow, 12, 1)]);
         cases.extend(mix().into_iter().filter(|c| c.name == "certified"));
     }
