@@ -13,9 +13,9 @@ use Rattle.automata.specs.Automaton.{Automaton}
 use Rattle.graphs.specs.Formulas.{Formula}
 use Rattle.automata.specs.Questions.{Atom, question}
 use Rattle.automata.specs.Answers.{nearestTo, failing}
-use Rattle.formulas.specs.Rows.{answerOf}
-use Rattle.formulas.specs.declared.Answer.{Answer}
-use Rattle.formulas.specs.declared.Answer.the-variants as answered
+use Rattle.answers.specs.Rows.{answerOf}
+use Rattle.answers.specs.declared.Answer.{Answer}
+use Rattle.answers.specs.declared.Answer.the-variants as answered
 use Rattle.forms.specs.FormAutomaton.{automatonOf, targetOf}
 use Rattle.witness.specs.Printed.{walked}
 use Rattle.claims.specs.Files.{withTarget, targetFiles, WithQuestion, questionFiles}

@@ -65,10 +65,10 @@ fn answer_code(form: &[u32], cat: &[u8], question: &[u32], count: usize) -> u32
         ⌜ r ≡ askCode (askedReply a (failing a (asked (rowsOf (now (question .entry)) count)))) ⌝ }
 {
     let n = classes_in(form);
-    let answer = formulas::decide(form, cat, n, question, count);
+    let answer = answers::decide(form, cat, n, question, count);
     match answer {
-        formulas::Answer::Yes => 1,
-        formulas::Answer::No(_) => 0,
+        answers::Answer::Yes => 1,
+        answers::Answer::No(_) => 0,
     }
 }
 

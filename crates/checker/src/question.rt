@@ -15,7 +15,7 @@ ghost use Rattle.forms.specs.QuestionForm.{rowsOf};
 ghost use Rattle.forms.specs.Readable.{Readable};
 ghost use Rattle.questions.specs.QuestionReply.{replyOf, formOf};
 ghost use Rattle.forms.specs.ClassLabels.{Lent};
-ghost use Rattle.formulas.specs.Rows.{shown};
+ghost use Rattle.answers.specs.Rows.{shown};
 ghost use Rattle.claims.specs.Files.{questionTo, AskBuffers, askBuffers};
 ghost use Rattle.claims.specs.AskReply.{askedReply, askedContents};
 ghost use Rattle.claims.specs.Demand.{AskPromise};
@@ -47,10 +47,10 @@ fn answer(
 {
     let n = classes_in(form);
     sets::clear(rows, 10784);
-    let answer = formulas::ask_with(form, cat, n, question, count, rows);
+    let answer = answers::ask_with(form, cat, n, question, count, rows);
     match answer {
-        formulas::Answer::Yes => Asking::Yes,
-        formulas::Answer::No(class) => {
+        answers::Answer::Yes => Asking::Yes,
+        answers::Answer::No(class) => {
             *contents = concretization::class_contents(form, cat, n, class);
             Asking::No {
                 class: class,

@@ -29,10 +29,10 @@ use Rattle.lists.specs.Filling.{filled}
 use Rattle.lists.proofs.Arrays.{length-filled, filled-at, filled-out}
 use Rattle.sets.proofs.Laws.{packed-low}
 use Rattle.predecessors.specs.NodeWords.{words}
-use Rattle.formulas.specs.Rows.{shownTo, shown}
+use Rattle.answers.specs.Rows.{shownTo, shown}
 use Rattle.searching.proofs.HeldSets.{member-words}
 use Rattle.formulas.proofs.RowSets.{holding-length}
-use Rattle.formulas.proofs.Buffer.{shown-row, held-formula}
+use Rattle.answers.proofs.Buffer.{shown-row, held-formula}
 use Rattle.reach.proofs.StepGraph.{graph-fits}
 use Rattle.claims.specs.Truth.{RowsClaim}
 

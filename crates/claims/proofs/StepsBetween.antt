@@ -1,27 +1,24 @@
 -- A bit of a step row means a step with real identifiers: from each state of the one configuration, and to each state of the other.
 -- Assumes nothing.
-use Prim.Native.Nat.{ℕ, _*_, _/_, _%_, _≤_, _<_, _^_}
-use mathlib.Core.Bool.{Bool, false}
+use Prim.Native.Nat.{ℕ, _≤_, _<_}
+use mathlib.Core.Bool.{false}
 use mathlib.Core.List.{List, [], _++_}
-use mathlib.Core.Path.{_≡_, sym, ap, _∙_, subst, subst⁻¹}
+use mathlib.Core.Path.{_≡_, sym, _∙_, subst, subst⁻¹}
 use native.Mathlib.Omega.{arith}
 use lib.Dec.{T}
 use lib.ListN.{length, getD, drop, List·getD-append, List·getD-eq-default}
 use Rattle.lists.proofs.Arrays.{front-kept}
 use Rattle.sets.specs.Packed.{packed}
-use Rattle.sets.specs.Members.{bit, member}
-use Rattle.sets.proofs.Laws.{member-packed, length-packedFrom, packed-low}
-use Rattle.graphs.specs.Graph.{Edge}
+use Rattle.sets.specs.Members.{member}
+use Rattle.sets.proofs.Laws.{member-packed, length-packedFrom, packed-low, member-append}
 use Rattle.automata.specs.Automaton.{Automaton}
-use Rattle.automata.specs.Runs.{State, Step}
-use Rattle.automata.specs.WellFormed.{wellFormed, limited}
-use Rattle.automata.specs.Configurations.{configurationCount, Related}
+use Rattle.automata.specs.WellFormed.{wellFormed}
+use Rattle.automata.specs.Configurations.{configurationCount}
 use Rattle.automata.specs.ConfigurationGraph.{rows}
 use Rattle.automata.proofs.Numbering.{configurations-length, rows-length}
 use Rattle.automata.proofs.ClassBisimulation.{forth, back}
 use Rattle.automata.proofs.Renamed.{edge-into}
 use Rattle.relation.specs.StepRows.{leadsOn}
-use Rattle.reach.proofs.QueueLaws.{member-append}
 use Rattle.reach.proofs.StepGraph.{row-length}
 use Rattle.claims.specs.StepReplies.{StepBetween, NoStep, SuccessorsClaim}
 

@@ -14,7 +14,7 @@ use Rattle.automata.specs.Answers.{failing}
 use Rattle.forms.specs.FormAutomaton.{automatonOf}
 use Rattle.forms.specs.QuestionForm.{rowsOf}
 use Rattle.lists.specs.Arrays.{padded}
-use Rattle.formulas.specs.Rows.{shown}
+use Rattle.answers.specs.Rows.{shown}
 use Rattle.claims.specs.Files.{WithQuestion, AskBuffers, askBuffers}
 use Rattle.claims.specs.declared.Asking.{Asking}
 use Rattle.claims.specs.declared.Asking.the-variants.{Yes, No, Refused}

@@ -3,3 +3,4 @@ pub mod NodeSets
 pub mod Picks
 pub mod QueueSearch
 pub mod Cycles
+pub mod FirstRound

@@ -3,7 +3,4 @@ pub mod PackedSets
 pub mod WordSets
 pub mod Tables
 pub mod RowSets
-pub mod Buffer
 pub mod Atoms
-pub mod AnswerRows
-pub mod MemorySizes

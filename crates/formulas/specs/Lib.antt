@@ -1,4 +1,2 @@
--- What the contracts of the formulas' rows cite.
-pub mod Rows
+-- What the contracts of the formulas' sets cite.
 pub mod RowRules
-pub mod Memory

@@ -1,4 +1,5 @@
 -- The lemmas of the reader's proofs, and the theorems that other crates cite.
+pub mod StepCodes
 pub mod Openings
 pub mod Walks
 pub mod WholeTexts

@@ -18,13 +18,11 @@ use Rattle.grammar.specs.Grammar.Question.{basic, joined, until}
 use Rattle.grammar.specs.Parser.{Read, paired, chain, each, valueOf, token, only, Side, joins, sides, question, number}
 use Rattle.grammar.specs.Parser.Read.{got, stop}
 use Rattle.grammar.proofs.TextRows.{rows-size}
-use Rattle.texts.specs.declared.Numeral.the-variants.{Value, Unread}
-use Rattle.texts.specs.declared.Step.{Step}
-use Rattle.texts.specs.declared.Step.the-variants as step
-use Rattle.texts.specs.declared.Step.the-variants.{Stopped}
-use Rattle.texts.specs.RowsPut.{putFirst, putRows, read}
-use Rattle.texts.specs.Descent.{from, pairFrom, equationFrom, locationFrom, ofJoined, ofUntil, ofEquation, middleKind, sideKind, Right, RightNumber, Before}
-use Rattle.texts.proofs.Openings.{in-list, token-none, token-some}
+use Rattle.texts.specs.Steps.{Step}
+use Rattle.texts.specs.Steps.Step.{read, stopped}
+use Rattle.texts.specs.RowsPut.{putFirst, putRows}
+use Rattle.texts.specs.Descent.{from, pairFrom, equationFrom, locationFrom, ofJoined, ofUntil, ofEquation, prefixedStep, prefixedRows, middleKind, sideKind, Right, RightNumber}
+use Rattle.texts.proofs.Openings.{Before, in-list, token-none, token-some}
 
 -- Equations
 
@@ -85,33 +83,33 @@ named-side b h = by-cases (ℕ-discrete b 114)
 -- Answers
 
 module _ (s : List ℕ) (i n : ℕ) (t : List ℕ) where
-  pub right-stop : (o : Read Question) (p : ℕ) (x : Step) (t′ : List ℕ) → x ≡ Stopped p → o ≡ stop (drop p s) → p ≤ length s → Right o s i n t x t′
+  pub right-stop : (o : Read Question) (p : ℕ) (x : Step) (t′ : List ℕ) → x ≡ stopped p → o ≡ stop (drop p s) → p ≤ length s → Right o s i n t x t′
   right-stop o p x t′ ex e h = rw ex (e, h)
 
   pub right-atom : (o : Read Question) (a : Atom) (p k v w : ℕ) → o ≡ got (basic a) (drop p s) → atomRow a ≡ row k v w → i < p → p ≤ length s
       → (x : Step) (t′ : List ℕ) → x ≡ read p (n + 1) → t′ ≡ putFirst t n (row k v w) → Right o s i n t x t′
   right-atom o a p k v w e f h l x t′ ex et = rw ex (basic a, e, refl, et ∙ ap (putFirst t n) (sym f), h, l, omega arith)
 
-  pub right-location : (v p : ℕ) → RightNumber s i (Value v p) → (x : Step) (t′ : List ℕ) → x ≡ read p (n + 1) → t′ ≡ putFirst t n (row 1 v 0) → Right (locationFrom s i) s i n t x t′
+  pub right-location : (v p : ℕ) → RightNumber s i (read p v) → (x : Step) (t′ : List ℕ) → x ≡ read p (n + 1) → t′ ≡ putFirst t n (row 1 v 0) → Right (locationFrom s i) s i n t x t′
   unfolding locationFrom
-  right-location v p (e, h, l, small) = right-atom (locationFrom s i) (at v) p 1 v 0 (rw e refl) refl h l
+  right-location v p (e, h, l) = right-atom (locationFrom s i) (at v) p 1 v 0 (rw e refl) refl h l
 
-  pub right-location-broken : (p : ℕ) → RightNumber s i (Unread p) → (x : Step) (t′ : List ℕ) → x ≡ Stopped p → Right (locationFrom s i) s i n t x t′
+  pub right-location-broken : (p : ℕ) → RightNumber s i (stopped p) → (x : Step) (t′ : List ℕ) → x ≡ stopped p → Right (locationFrom s i) s i n t x t′
   unfolding locationFrom
   right-location-broken p (e, l) x t′ ex = right-stop (locationFrom s i) p x t′ ex (rw e refl) l
 
   -- an equation, read to its end
-  pub right-equation : (v p j p′ k : ℕ) → RightNumber s i (Value v p) → getD s p 0 ≡ 61 → k ≡ sideKind (getD s (p + 1) 0) → k ≢ 0 → RightNumber s (p + 1 + 1) (Value j p′)
+  pub right-equation : (v p j p′ k : ℕ) → RightNumber s i (read p v) → getD s p 0 ≡ 61 → k ≡ sideKind (getD s (p + 1) 0) → k ≢ 0 → RightNumber s (p + 1 + 1) (read p′ j)
       → (x : Step) (t′ : List ℕ) → x ≡ read p′ (n + 1) → t′ ≡ putFirst t n (row k v j) → Right (equationFrom s i) s i n t x t′
-  right-equation v p j p′ k (e, h, l, small) b f z (e′, h′, l′, small′) x t′ ex et =
+  right-equation v p j p′ k (e, h, l) b f z (e′, h′, l′) x t′ ex et =
       let m = named-side (getD s (p + 1) 0) (λ y. z (f ∙ y)) in
       right-atom (equationFrom s i) (sideAtom (m .side) v j) p′ k v j
       (last-number s i v p e b (m .side) (m .before) (m .byte) (m .found) (got j (drop p′ s)) e′ ∙ side-equation (m .side) v j (drop p′ s))
       (m .kind v j ∙ ap (λ y. row y v j) (sym f)) (omega arith) l′ x t′ ex et
 
-  pub right-equation-broken : (v p p′ k : ℕ) → RightNumber s i (Value v p) → getD s p 0 ≡ 61 → k ≡ sideKind (getD s (p + 1) 0) → k ≢ 0 → RightNumber s (p + 1 + 1) (Unread p′)
-      → (x : Step) (t′ : List ℕ) → x ≡ Stopped p′ → Right (equationFrom s i) s i n t x t′
-  right-equation-broken v p p′ k (e, h, l, small) b f z (e′, l′) x t′ ex =
+  pub right-equation-broken : (v p p′ k : ℕ) → RightNumber s i (read p v) → getD s p 0 ≡ 61 → k ≡ sideKind (getD s (p + 1) 0) → k ≢ 0 → RightNumber s (p + 1 + 1) (stopped p′)
+      → (x : Step) (t′ : List ℕ) → x ≡ stopped p′ → Right (equationFrom s i) s i n t x t′
+  right-equation-broken v p p′ k (e, h, l) b f z (e′, l′) x t′ ex =
       let m = named-side (getD s (p + 1) 0) (λ y. z (f ∙ y)) in
       right-stop (equationFrom s i) p′ x t′ ex (equation-stops-4 s i v p e b (m .side) (m .before) (m .byte) (m .found) (drop p′ s) e′) l′
 
@@ -135,9 +133,9 @@ each-stop f o r e = rw e refl
 
 module _ (s : List ℕ) (i j n : ℕ) (t : List ℕ) (o o′ : Read Question) where
   -- an operator before a question
-  pub right-prefix : (f : Question → Question) (k : ℕ) → Before f k → o ≡ each f o′ → i < j → (a r : ℕ) (u : List ℕ) → Right o′ s j n t (read a r) u
-      → (x : Step) (t′ : List ℕ) → x ≡ read a (r + 1) → t′ ≡ putFirst u r (row k r 0) → Right o s i n t x t′
-  right-prefix f k b e h a r u (q, e′, er, eu, h′, l, bound) x t′ ex et =
+  pub right-prefix : (k : ℕ) (f : Question → Question) → Before f k → o ≡ each f o′ → i < j → (y : Step) (u : List ℕ) → Right o′ s j n t y u
+      → (x : Step) (t′ : List ℕ) → x ≡ prefixedStep y → t′ ≡ prefixedRows k u y → Right o s i n t x t′
+  right-prefix k f b e h (read a r) u (q, e′, er, eu, h′, l, bound) x t′ ex et =
       let (es, rows) = b q in
       rw ex (
         f q,
@@ -148,14 +146,12 @@ module _ (s : List ℕ) (i j n : ℕ) (t : List ℕ) (o o′ : Read Question) wh
         l,
         omega arith,
       )
-
-  pub right-prefix-stop : (f : Question → Question) → o ≡ each f o′ → (p : ℕ) (u : List ℕ) → Right o′ s j n t (Stopped p) u → (x : Step) (t′ : List ℕ) → x ≡ Stopped p → Right o s i n t x t′
-  right-prefix-stop f e p u (e′, l) x t′ ex = rw ex (e ∙ each-stop f o′ (drop p s) e′, l)
+  right-prefix k f b e h (stopped p) u (e′, l) x t′ ex et = rw ex (e ∙ each-stop f o′ (drop p s) e′, l)
 
   -- the same question from an earlier byte
   pub right-same : o ≡ o′ → i < j → (x : Step) (t′ : List ℕ) → Right o′ s j n t x t′ → Right o s i n t x t′
-  right-same e h (step.Read c) t′ (q, e′, er, eu, h′, l, bound) = (q, e ∙ e′, er, eu, omega arith, l, omega arith)
-  right-same e h (Stopped p) t′ (e′, l) = (e ∙ e′, l)
+  right-same e h (read a r) t′ (q, e′, er, eu, h′, l, bound) = (q, e ∙ e′, er, eu, omega arith, l, omega arith)
+  right-same e h (stopped p) t′ (e′, l) = (e ∙ e′, l)
 
 -- Two questions
 
@@ -249,30 +245,30 @@ pair-rows : (t v w : List ℕ) (n r r′ k k′ : ℕ) (p q : Question) → k �
 pair-rows t v w n r r′ k k′ p q ek er er′ ev ew = rw ew (rw ev (rw er′ (rw er (rw ek (sym (put-pair t n p q (row k′ (n + size p) (n + size p + size q))))))))
 
 module _ (s : List ℕ) (i n : ℕ) (t : List ℕ) (u : Bool) where
-  pub right-left-stop : (p : ℕ) (v : List ℕ) → Right (from s i) s i n t (Stopped p) v → (t′ : List ℕ) → Right (pairFrom u s i) s i n t (Stopped p) t′
-  right-left-stop p v (e, l) t′ = (pair-stops-left s i u (drop p s) e, l)
+  pub right-left-stop : (p : ℕ) (v : List ℕ) → Right (from s i) s i n t (stopped p) v → (x : Step) (t′ : List ℕ) → x ≡ stopped p → Right (pairFrom u s i) s i n t x t′
+  right-left-stop p v (e, l) x t′ ex = right-stop s i n t (pairFrom u s i) p x t′ ex (pair-stops-left s i u (drop p s) e) l
 
   module _ (m r : ℕ) (v : List ℕ) (L : Right (from s i) s i n t (read m r) v) where
-    pub right-middle-stop : middleKind u (getD s m 0) ≡ 0 → (t′ : List ℕ) → Right (pairFrom u s i) s i n t (Stopped m) t′
-    right-middle-stop k t′ = let (p, e, er, ev, h, l, bound) = L in (pair-stops-middle s i p m e u l k, l)
+    pub right-middle-stop : middleKind u (getD s m 0) ≡ 0 → (x : Step) (t′ : List ℕ) → x ≡ stopped m → Right (pairFrom u s i) s i n t x t′
+    right-middle-stop k x t′ ex = let (p, e, er, ev, h, l, bound) = L in right-stop s i n t (pairFrom u s i) m x t′ ex (pair-stops-middle s i p m e u l k) l
 
     module _ (k : ℕ) (ek : k ≡ middleKind u (getD s m 0)) (z : k ≢ 0) where
       pub middle-in : m < length s
       middle-in = let (p, e, er, ev, h, l, bound) = L in let (f, j, l′, w) = pair-joins s i p m e u (λ y. z (ek ∙ y)) in l′
 
-      pub right-right-stop : (a : ℕ) (w : List ℕ) → Right (from s (m + 1)) s (m + 1) r v (Stopped a) w → (t′ : List ℕ) → Right (pairFrom u s i) s i n t (Stopped a) t′
-      right-right-stop a w (e′, l′) t′ =
+      pub right-right-stop : (a : ℕ) (w : List ℕ) → Right (from s (m + 1)) s (m + 1) r v (stopped a) w → (x : Step) (t′ : List ℕ) → x ≡ stopped a → Right (pairFrom u s i) s i n t x t′
+      right-right-stop a w (e′, l′) x t′ ex =
           let (p, e, er, ev, h, l, bound) = L in
           let (f, j, lm, w) = pair-joins s i p m e u (λ y. z (ek ∙ y)) in
-          (w ∙ rest-stops f p (from s (m + 1)) (drop a s) e′, l′)
+          right-stop s i n t (pairFrom u s i) a x t′ ex (w ∙ rest-stops f p (from s (m + 1)) (drop a s) e′) l′
 
       module _ (a r′ : ℕ) (w : List ℕ) (R : Right (from s (m + 1)) s (m + 1) r v (read a r′) w) where
-        pub right-open-stop : getD s a 0 ≢ 41 → (t′ : List ℕ) → Right (pairFrom u s i) s i n t (Stopped a) t′
-        right-open-stop b t′ =
+        pub right-open-stop : getD s a 0 ≢ 41 → (x : Step) (t′ : List ℕ) → x ≡ stopped a → Right (pairFrom u s i) s i n t x t′
+        right-open-stop b x t′ ex =
             let (p, e, er, ev, h, l, bound) = L in
             let (q, e′, er′, ew, h′, l′, bound′) = R in
             let (f, j, lm, w) = pair-joins s i p m e u (λ y. z (ek ∙ y)) in
-            (w ∙ rest-open f p (from s (m + 1)) q s a e′ l′ b, l′)
+            right-stop s i n t (pairFrom u s i) a x t′ ex (w ∙ rest-open f p (from s (m + 1)) q s a e′ l′ b) l′
 
         pub right-pair : getD s a 0 ≡ 41 → (x : Step) (t′ : List ℕ) → x ≡ read (a + 1) (r′ + 1) → t′ ≡ putFirst w r′ (row k r r′) → Right (pairFrom u s i) s i n t x t′
         right-pair b x t′ ex et =

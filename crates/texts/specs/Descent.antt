@@ -1,24 +1,21 @@
 -- What the functions of the reader give, by the parser of crate grammar.
 -- Assumes nothing.
-use Prim.Native.Nat.{ℕ, suc, _+_, _≤_, _<_}
+use Prim.Native.Nat.{ℕ, _+_, _≤_, _<_}
 use mathlib.Core.Bool.{Bool, true, false, cond}
-use mathlib.Core.List.{List, [], _∷_, _++_}
+use mathlib.Core.List.{List}
+use mathlib.Core.Option.{Option, none, some}
 use mathlib.Core.Path.{_≡_}
 use lib.Dec.{eqb}
 use lib.ListN.{length, drop}
 use Rattle.automata.specs.Questions.{row}
 use Rattle.automata.specs.Questions.Atom.{at, equal, is}
-use Rattle.grammar.specs.Grammar.{Join, Question, size, rowsFrom}
+use Rattle.grammar.specs.Grammar.{Temporal, Join, Question, size, existsKind, alwaysKind, rowsFrom}
 use Rattle.grammar.specs.Grammar.Question.{basic, joined, until}
 use Rattle.grammar.specs.Parser as parser
 use Rattle.grammar.specs.Parser.Read.{got, stop}
-use Rattle.texts.specs.declared.Step.{Step}
-use Rattle.texts.specs.declared.Step.the-variants.{Read, Stopped}
-use Rattle.texts.specs.declared.Numeral.{Numeral}
-use Rattle.texts.specs.declared.Numeral.the-variants.{Value, Unread}
-use Rattle.texts.specs.declared.Opening.{Opening}
-use Rattle.texts.specs.declared.Opening.the-variants.{Prefix, Until, Register, Location, Broken}
-use Rattle.texts.specs.RowsPut.{putRows}
+use Rattle.texts.specs.Steps.{Step}
+use Rattle.texts.specs.Steps.Step.{read, stopped}
+use Rattle.texts.specs.RowsPut.{putFirst, putRows}
 
 -- a question from byte i on, counted from 0
 unfoldable pub from : List ℕ → ℕ → parser.Read Question
@@ -50,6 +47,25 @@ ofLocation l = basic (at l)
 unfoldable pub locationFrom : List ℕ → ℕ → parser.Read Question
 locationFrom s i = parser.each ofLocation (parser.number (drop i s))
 
+-- the kind of row for X, G or F, or 0 where there is none of them
+abbrev pub kindOr0 : (Temporal → ℕ) → Option Temporal → ℕ
+kindOr0 kind none = 0
+kindOr0 kind (some o) = kind o
+
+-- the kind of row for an operator of two bytes before a question, or 0
+unfoldable pub prefixKind : ℕ → ℕ → ℕ
+prefixKind b c = cond (eqb b 69) (kindOr0 existsKind (parser.valueOf parser.temporals c)) (cond (eqb b 65) (kindOr0 alwaysKind (parser.valueOf parser.temporals c)) 0)
+
+-- an operator before what was read is one row more
+abbrev pub prefixedStep : Step → Step
+prefixedStep (read a r) = read a (r + 1)
+prefixedStep (stopped p) = stopped p
+
+-- the row of an operator, of kind k, behind the rows of what was read
+abbrev pub prefixedRows : ℕ → List ℕ → Step → List ℕ
+prefixedRows k t (read a r) = putFirst t r (row k r 0)
+prefixedRows k t (stopped p) = t
+
 -- the kind of row for the byte that joins two questions, or 0
 unfoldable pub middleKind : Bool → ℕ → ℕ
 middleKind true b = cond (eqb b 85) 7 0
@@ -61,26 +77,12 @@ sideKind b = cond (eqb b 114) 2 (cond (eqb b 99) 3 0)
 
 -- the answer to o, from byte i on with n rows before and the form t: a question's end and rows, or the byte at which it stops
 abbrev pub Right : parser.Read Question → List ℕ → ℕ → ℕ → List ℕ → Step → List ℕ → Type 0
-Right o s i n t (Read c) t′ =
-    (q : Question) × (o ≡ got q (drop (c .at) s)) × (c .rows ≡ n + size q) × (t′ ≡ putRows t n (rowsFrom n q))
-    × (i < c .at) × (c .at ≤ length s) × (c .rows + i ≤ c .at + n)
-Right o s i n t (Stopped p) t′ = (o ≡ stop (drop p s)) × (p ≤ length s)
+Right o s i n t (read a r) t′ =
+    (q : Question) × (o ≡ got q (drop a s)) × (r ≡ n + size q) × (t′ ≡ putRows t n (rowsFrom n q))
+    × (i < a) × (a ≤ length s) × (r + i ≤ a + n)
+Right o s i n t (stopped p) t′ = (o ≡ stop (drop p s)) × (p ≤ length s)
 
-abbrev pub RightNumber : List ℕ → ℕ → Numeral → Type 0
-RightNumber s i (Value v p) = (parser.number (drop i s) ≡ got v (drop p s)) × (i < p) × (p ≤ length s) × (v ≤ 99)
-RightNumber s i (Unread p) = (parser.number (drop i s) ≡ stop (drop p s)) × (p ≤ length s)
-
--- f puts an operator with a row of kind k before a question
-abbrev pub Before : (Question → Question) → ℕ → Type 0
-Before f k = (q : Question) → (size (f q) ≡ suc (size q)) × ((n : ℕ) → rowsFrom n (f q) ≡ rowsFrom n q ++ (row k (n + size q) 0 ∷ []))
-
--- from byte i on stands what o gives from the later byte p on
-abbrev pub Goes : List ℕ → ℕ → parser.Read Question → ℕ → Type 0
-Goes s i o p = (from s i ≡ o) × (i < p) × (p ≤ length s)
-
-abbrev pub RightOpening : List ℕ → ℕ → Opening → Type 0
-RightOpening s i (Prefix k p) = (f : Question → Question) × Before f k × Goes s i (parser.each f (from s p)) p
-RightOpening s i (Until p) = Goes s i (pairFrom true s p) p
-RightOpening s i (Register p) = Goes s i (equationFrom s p) p
-RightOpening s i (Location p) = Goes s i (locationFrom s p) p
-RightOpening s i (Broken p) = (from s i ≡ stop (drop p s)) × (p ≤ length s)
+-- a number from byte i on: its value and end, or the byte at which it stops
+abbrev pub RightNumber : List ℕ → ℕ → Step → Type 0
+RightNumber s i (read p v) = (parser.number (drop i s) ≡ got v (drop p s)) × (i < p) × (p ≤ length s)
+RightNumber s i (stopped p) = (parser.number (drop i s) ≡ stop (drop p s)) × (p ≤ length s)

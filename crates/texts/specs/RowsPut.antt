@@ -6,8 +6,6 @@ use mathlib.Core.List.{List, [], _∷_}
 use lib.Dec.{ltb}
 use Rattle.automata.specs.Questions.{Row}
 use Rattle.forms.specs.QuestionForm.{put}
-use Rattle.texts.specs.declared.Step.{Step}
-use Rattle.texts.specs.declared.Step.the-variants.{Read}
 
 -- row n, counted from 0, written if it is one of the first 32
 unfoldable pub putFirst : List ℕ → ℕ → Row → List ℕ
@@ -17,7 +15,3 @@ putFirst t n r = cond (ltb n 32) (put t n r) t
 abbrev pub putRows : List ℕ → ℕ → List Row → List ℕ
 putRows t n [] = t
 putRows t n (r ∷ rs) = putRows (putFirst t n r) (n + 1) rs
-
--- a question was read up to this byte, with so many rows
-abbrev pub read : ℕ → ℕ → Step
-read at rows = Read (record { at = at; rows = rows })

@@ -2,54 +2,28 @@
 ghost use mathlib.Core.Logic.{_≢_};
 ghost use mathlib.Core.Path.{_≡_};
 ghost use Prim.Native.Nat.{_+_, _≤_, _<_};
-ghost use lib.ListN.{length, getD};
+ghost use lib.ListN.{length, getD, take};
 ghost use Rattle.refusals.specs.Judged.{refusal};
 ghost use Rattle.automata.specs.Questions.{row};
 ghost use Rattle.forms.specs.QuestionForm.{rowsOf};
 ghost use Rattle.questions.specs.declared.Reply.the-variants.{Refused};
 ghost use Rattle.questions.specs.QuestionReply.{replyOf, formOf};
 ghost use Rattle.texts.specs.Texts.{RightText, firstMisfit, readText};
-ghost use Rattle.texts.specs.RowsPut.{putFirst, read};
-ghost use Rattle.texts.specs.Descent.{from, pairFrom, equationFrom, locationFrom, middleKind, sideKind, Right, RightNumber, RightOpening};
+ghost use Rattle.texts.specs.RowsPut.{putFirst};
+ghost use Rattle.texts.specs.Steps.{Step, stepOf};
+ghost use Rattle.texts.specs.Descent.{from, pairFrom, equationFrom, locationFrom, prefixKind, prefixedStep, prefixedRows, middleKind, sideKind, Right, RightNumber};
 use forms::Question;
 use questions::Counts;
 use questions::Reply;
 use refusals::Refusal;
 
-// The next byte, and the rows up to there.
-pub struct Cursor {
-    pub at: usize,
-    pub rows: u32,
-}
+// A text with room for the longest. A reference to it is one address, where one to a slice is two numbers that every call writes to memory again.
+const LENGTH: usize = 400;
 
-// A question was read up to here, or the byte, from 0, at which it can't go on.
-pub enum Step {
-    Read(Cursor),
-    Stopped(usize),
-}
-
-// A number with the byte after it, or the byte at which it can't go on.
-pub enum Numeral {
-    Value(u32, usize),
-    Unread(usize),
-}
-
-// How a question begins that is no bracket, with the byte after that.
-pub enum Opening {
-    // an operator before a question, with the kind of its row
-    Prefix(u32, usize),
-    // E and a bracket
-    Until(usize),
-    // r
-    Register(usize),
-    // L
-    Location(usize),
-    // the byte at which it can't go on
-    Broken(usize),
-}
+type Text = [u8; LENGTH];
 
 // Writes row n, counted from 0, if it is one of the first 32.
-fn put_first(t: &mut [u32], n: u32, k: u32, a: u32, b: u32)
+fn put_first(t: &mut Question, n: u32, k: u32, a: u32, b: u32)
     ensures { λ r. ⌜ now (t .exit) ≡ putFirst (now (t .entry)) n (row k a b) ⌝ }
 {
     if n < 32 {
@@ -57,49 +31,98 @@ fn put_first(t: &mut [u32], n: u32, k: u32, a: u32, b: u32)
     }
 }
 
-// Read up to here, with one row more.
-fn closed(t: &mut [u32], at: usize, rows: u32, k: u32, a: u32, b: u32) -> Step
-    requires { ⌜ rows < 1000 ⌝ }
-    ensures { λ r. ⌜ (now (t .exit) ≡ putFirst (now (t .entry)) rows (row k a b)) × (r ≡ read at (rows + 1)) ⌝ }
+// Read up to here, with this number: the rows up to there, or the value of a numeral.
+fn read(at: u32, n: u32) -> u32
+    requires { ⌜ (at < 1024) × (0 < n) × (n ≤ 1000) ⌝ }
+    ensures { λ r. ⌜ stepOf r ≡ Step.read at n ⌝ }
 {
-    put_first(t, rows, k, a, b);
-    Step::Read(Cursor {
-        at: at,
-        rows: rows + 1,
-    })
+    at + 1024 * n
 }
 
-// The byte at a position, 0 behind the end.
-fn byte_at(s: &[u8], at: usize) -> u32
-    ensures { λ r. ⌜ r ≡ getD (now (s .entry)) at 0 ⌝ }
+// Read up to here, with one row more.
+fn closed(t: &mut Question, at: u32, rows: u32, k: u32, a: u32, b: u32) -> u32
+    requires { ⌜ (at < 1024) × (rows < 1000) ⌝ }
+    ensures { λ r. ⌜ (now (t .exit) ≡ putFirst (now (t .entry)) rows (row k a b)) × (stepOf r ≡ Step.read at (rows + 1)) ⌝ }
 {
-    if at < s.len() {
-        return s[at] as u32;
+    put_first(t, rows, k, a, b);
+    read(at, rows + 1)
+}
+
+// An operator before what was read up to here, with its row of kind k, or the same stop.
+fn prefixed(t: &mut Question, q: u32, k: u32) -> u32
+    requires { ⌜ q < 1024000 ⌝ }
+    ensures { λ r. ⌜ (stepOf r ≡ prefixedStep (stepOf q)) × (now (t .exit) ≡ prefixedRows k (now (t .entry)) (stepOf q)) ⌝ }
+{
+    if q < 1024 {
+        return q;
+    }
+    closed(t, q % 1024, q / 1024, k, q / 1024, 0)
+}
+
+// A byte as a number.
+fn wide(b: u8) -> u32
+    ensures { λ r. ⌜ r ≡ b ⌝ }
+{
+    b as u32
+}
+
+// The byte at a position of a text of n bytes, 0 behind the end.
+fn byte_at(s: &Text, n: u32, at: u32) -> u32
+    requires { ⌜ n ≤ 400 ⌝ }
+    ensures { λ r. ⌜ r ≡ getD (take n (now (s .entry))) at 0 ⌝ }
+{
+    if at < n {
+        return wide(s[at as usize]);
     }
     0
 }
 
 // A number of one or two digits, the first not 0.
-fn number(s: &[u8], at: usize) -> Numeral
-    requires { ⌜ (at ≤ length (now s)) × (length (now s) ≤ 400) ⌝ }
-    ensures { λ r. ⌜ RightNumber (now (s .entry)) at r ⌝ }
+fn number(s: &Text, n: u32, at: u32) -> u32
+    requires { ⌜ (at ≤ length (take n (now s))) × (n ≤ 400) ⌝ }
+    ensures { λ r. ⌜ RightNumber (take n (now (s .entry))) at (stepOf r) ⌝ }
 {
-    let b = byte_at(s, at);
+    let b = byte_at(s, n, at);
     if b < 49 {
-        return Numeral::Unread(at);
+        return at;
     }
     if 57 < b {
-        return Numeral::Unread(at);
+        return at;
     }
     let next = at + 1;
-    let c = byte_at(s, next);
+    let c = byte_at(s, n, next);
     if c < 48 {
-        return Numeral::Value(b - 48, next);
+        return read(next, b - 48);
     }
     if 57 < c {
-        return Numeral::Value(b - 48, next);
+        return read(next, b - 48);
     }
-    Numeral::Value(10 * (b - 48) + (c - 48), next + 1)
+    read(next + 1, 10 * (b - 48) + (c - 48))
+}
+
+// The kind of the row for an operator of these two bytes before a question, or 0.
+fn prefix(b: u32, c: u32) -> u32
+    ensures { λ r. ⌜ r ≡ prefixKind b c ⌝ }
+{
+    match b {
+        69 => {
+            match c {
+                88 => 6,
+                71 => 8,
+                70 => 12,
+                _ => 0,
+            }
+        }
+        65 => {
+            match c {
+                88 => 11,
+                71 => 13,
+                70 => 14,
+                _ => 0,
+            }
+        }
+        _ => 0,
+    }
 }
 
 // The kind of the row for what joins two questions, or 0.
@@ -132,129 +155,112 @@ fn side(b: u32) -> u32
 }
 
 // What follows the byte L.
-fn location(s: &[u8], t: &mut [u32], at: usize, rows: u32) -> Step
-    requires { ⌜ (at ≤ length (now s)) × (length (now s) ≤ 400) × (rows < at) ⌝ }
-    ensures { λ r. ⌜ Right (locationFrom (now (s .entry)) at) (now (s .entry)) at rows (now (t .entry)) r (now (t .exit)) ⌝ }
+fn location(s: &Text, n: u32, t: &mut Question, at: u32, rows: u32) -> u32
+    requires { ⌜ (at ≤ length (take n (now s))) × (n ≤ 400) × (rows < at) ⌝ }
+    ensures { λ r. ⌜ Right (locationFrom (take n (now (s .entry))) at) (take n (now (s .entry))) at rows (now (t .entry)) (stepOf r) (now (t .exit)) ⌝ }
 {
-    match number(s, at) {
-        Numeral::Unread(p) => Step::Stopped(p),
-        Numeral::Value(v, p) => closed(t, p, rows, 1, v, 0),
+    let v = number(s, n, at);
+    if v < 1024 {
+        return v;
     }
+    closed(t, v % 1024, rows, 1, v / 1024, 0)
 }
 
 // What follows the byte r.
-fn equation(s: &[u8], t: &mut [u32], at: usize, rows: u32) -> Step
-    requires { ⌜ (at ≤ length (now s)) × (length (now s) ≤ 400) × (rows < at) ⌝ }
-    ensures { λ r. ⌜ Right (equationFrom (now (s .entry)) at) (now (s .entry)) at rows (now (t .entry)) r (now (t .exit)) ⌝ }
+fn equation(s: &Text, n: u32, t: &mut Question, at: u32, rows: u32) -> u32
+    requires { ⌜ (at ≤ length (take n (now s))) × (n ≤ 400) × (rows < at) ⌝ }
+    ensures { λ r. ⌜ Right (equationFrom (take n (now (s .entry))) at) (take n (now (s .entry))) at rows (now (t .entry)) (stepOf r) (now (t .exit)) ⌝ }
 {
-    match number(s, at) {
-        Numeral::Unread(p) => Step::Stopped(p),
-        Numeral::Value(i, p) => {
-            if byte_at(s, p) != 61 {
-                return Step::Stopped(p);
-            }
-            let m = p + 1;
-            let k = side(byte_at(s, m));
-            if k == 0 {
-                return Step::Stopped(m);
-            }
-            match number(s, m + 1) {
-                Numeral::Unread(q) => Step::Stopped(q),
-                Numeral::Value(j, q) => closed(t, q, rows, k, i, j),
-            }
-        }
+    let i = number(s, n, at);
+    if i < 1024 {
+        return i;
     }
-}
-
-// How a question begins that is no bracket.
-fn opened(s: &[u8], at: usize) -> Opening
-    requires { ⌜ (at ≤ length (now s)) × (length (now s) ≤ 400) × (getD (now s) at 0 ≢ 40) ⌝ }
-    ensures { λ r. ⌜ RightOpening (now (s .entry)) at r ⌝ }
-{
-    let b = byte_at(s, at);
-    let next = at + 1;
-    match b {
-        76 => Opening::Location(next),
-        114 => Opening::Register(next),
-        33 => Opening::Prefix(4, next),
-        69 => {
-            let c = byte_at(s, next);
-            match c {
-                88 => Opening::Prefix(6, next + 1),
-                71 => Opening::Prefix(8, next + 1),
-                70 => Opening::Prefix(12, next + 1),
-                40 => Opening::Until(next + 1),
-                _ => Opening::Broken(next),
-            }
-        }
-        65 => {
-            let c = byte_at(s, next);
-            match c {
-                88 => Opening::Prefix(11, next + 1),
-                71 => Opening::Prefix(13, next + 1),
-                70 => Opening::Prefix(14, next + 1),
-                _ => Opening::Broken(next),
-            }
-        }
-        _ => Opening::Broken(at),
+    let p = i % 1024;
+    if byte_at(s, n, p) != 61 {
+        return p;
     }
+    let m = p + 1;
+    let k = side(byte_at(s, n, m));
+    if k == 0 {
+        return m;
+    }
+    let j = number(s, n, m + 1);
+    if j < 1024 {
+        return j;
+    }
+    closed(t, j % 1024, rows, k, i / 1024, j / 1024)
 }
 
 // A question: two in brackets, or what begins otherwise.
-fn question(s: &[u8], t: &mut [u32], at: usize, rows: u32) -> Step
-    requires { ⌜ (at ≤ length (now s)) × (length (now s) ≤ 400) × (rows ≤ at) ⌝ }
-    ensures { λ r. ⌜ Right (from (now (s .entry)) at) (now (s .entry)) at rows (now (t .entry)) r (now (t .exit)) ⌝ }
+fn question(s: &Text, n: u32, t: &mut Question, at: u32, rows: u32) -> u32
+    requires { ⌜ (at ≤ length (take n (now s))) × (n ≤ 400) × (rows ≤ at) ⌝ }
+    ensures { λ r. ⌜ Right (from (take n (now (s .entry))) at) (take n (now (s .entry))) at rows (now (t .entry)) (stepOf r) (now (t .exit)) ⌝ }
 {
-    if byte_at(s, at) == 40 {
-        return pair(s, t, at + 1, rows, false);
+    if byte_at(s, n, at) == 40 {
+        return pair(s, n, t, at + 1, rows, false);
     }
-    atom(s, t, at, rows)
+    atom(s, n, t, at, rows)
 }
 
 // A location, an equation, or an operator with what it stands before.
-fn atom(s: &[u8], t: &mut [u32], at: usize, rows: u32) -> Step
-    requires { ⌜ (at ≤ length (now s)) × (length (now s) ≤ 400) × (rows ≤ at) × (getD (now s) at 0 ≢ 40) ⌝ }
-    ensures { λ r. ⌜ Right (from (now (s .entry)) at) (now (s .entry)) at rows (now (t .entry)) r (now (t .exit)) ⌝ }
+fn atom(s: &Text, n: u32, t: &mut Question, at: u32, rows: u32) -> u32
+    requires { ⌜ (at ≤ length (take n (now s))) × (n ≤ 400) × (rows ≤ at) × (getD (take n (now s)) at 0 ≢ 40) ⌝ }
+    ensures { λ r. ⌜ Right (from (take n (now (s .entry))) at) (take n (now (s .entry))) at rows (now (t .entry)) (stepOf r) (now (t .exit)) ⌝ }
 {
-    match opened(s, at) {
-        Opening::Location(next) => location(s, t, next, rows),
-        Opening::Register(next) => equation(s, t, next, rows),
-        Opening::Until(next) => pair(s, t, next, rows, true),
-        Opening::Broken(p) => Step::Stopped(p),
-        Opening::Prefix(k, next) => {
-            match question(s, t, next, rows) {
-                Step::Stopped(p) => Step::Stopped(p),
-                Step::Read(c) => closed(t, c.at, c.rows, k, c.rows, 0),
-            }
-        }
+    let b = byte_at(s, n, at);
+    let next = at + 1;
+    // apart from the operators of two bytes, so that where the next question begins is not computed from this byte
+    if b == 33 {
+        let q = question(s, n, t, next, rows);
+        return prefixed(t, q, 4);
     }
+    if b == 76 {
+        return location(s, n, t, next, rows);
+    }
+    if b == 114 {
+        return equation(s, n, t, next, rows);
+    }
+    let c = byte_at(s, n, next);
+    let k = prefix(b, c);
+    if k == 0 {
+        if b == 69 {
+            if c == 40 {
+                return pair(s, n, t, next + 1, rows, true);
+            }
+            return next;
+        }
+        if b == 65 {
+            return next;
+        }
+        return at;
+    }
+    let q = question(s, n, t, next + 1, rows);
+    prefixed(t, q, k)
 }
 
 // Two questions with what joins them, up to the closing bracket.
-fn pair(s: &[u8], t: &mut [u32], at: usize, rows: u32, until: bool) -> Step
-    requires { ⌜ (at ≤ length (now s)) × (length (now s) ≤ 400) × (rows < at) ⌝ }
-    ensures { λ r. ⌜ Right (pairFrom until (now (s .entry)) at) (now (s .entry)) at rows (now (t .entry)) r (now (t .exit)) ⌝ }
+fn pair(s: &Text, n: u32, t: &mut Question, at: u32, rows: u32, until: bool) -> u32
+    requires { ⌜ (at ≤ length (take n (now s))) × (n ≤ 400) × (rows < at) ⌝ }
+    ensures { λ r. ⌜ Right (pairFrom until (take n (now (s .entry))) at) (take n (now (s .entry))) at rows (now (t .entry)) (stepOf r) (now (t .exit)) ⌝ }
 {
-    match question(s, t, at, rows) {
-        Step::Stopped(p) => Step::Stopped(p),
-        Step::Read(c) => {
-            let m = c.at;
-            let k = middle(byte_at(s, m), until);
-            if k == 0 {
-                return Step::Stopped(m);
-            }
-            match question(s, t, m + 1, c.rows) {
-                Step::Stopped(p) => Step::Stopped(p),
-                Step::Read(d) => {
-                    let e = d.at;
-                    if byte_at(s, e) != 41 {
-                        return Step::Stopped(e);
-                    }
-                    closed(t, e + 1, d.rows, k, c.rows, d.rows)
-                }
-            }
-        }
+    let p = question(s, n, t, at, rows);
+    if p < 1024 {
+        return p;
     }
+    let m = p % 1024;
+    let k = middle(byte_at(s, n, m), until);
+    if k == 0 {
+        return m;
+    }
+    let q = question(s, n, t, m + 1, p / 1024);
+    if q < 1024 {
+        return q;
+    }
+    let e = q % 1024;
+    if byte_at(s, n, e) != 41 {
+        return e;
+    }
+    closed(t, e + 1, q / 1024, k, p / 1024, q / 1024)
 }
 
 // A text that is read to its end, with the number of its rows, or the byte, from 1, at which it is outside the grammar.
@@ -264,20 +270,19 @@ pub enum Scanned {
 }
 
 // A whole text of at most 400 bytes.
-fn scan(s: &[u8], t: &mut [u32]) -> Scanned
-    requires { ⌜ length (now s) ≤ 400 ⌝ }
-    ensures { λ r. ⌜ RightText (now (s .entry)) (now (t .entry)) r (now (t .exit)) ⌝ }
+fn scan(s: &Text, n: u32, t: &mut Question) -> Scanned
+    requires { ⌜ (n ≤ 400) × (n ≤ length (now s)) ⌝ }
+    ensures { λ r. ⌜ RightText (take n (now (s .entry))) (now (t .entry)) r (now (t .exit)) ⌝ }
 {
-    match question(s, t, 0, 0) {
-        Step::Stopped(p) => Scanned::Outside((p as u32) + 1),
-        Step::Read(c) => {
-            let end = c.at;
-            if end < s.len() {
-                return Scanned::Outside((end as u32) + 1);
-            }
-            Scanned::Whole(c.rows)
-        }
+    let q = question(s, n, t, 0, 0);
+    if q < 1024 {
+        return Scanned::Outside(q + 1);
     }
+    let end = q % 1024;
+    if end < n {
+        return Scanned::Outside(end + 1);
+    }
+    Scanned::Whole(q / 1024)
 }
 
 // The number of the first of n rows that does not fit the table, or 0.
@@ -327,8 +332,10 @@ pub fn read_text(
         constants: constants,
         locations: locations,
     };
+    let mut text = [0u8; LENGTH];
+    bytes::copy(s, &mut text);
     let mut form = [0u32; forms::QUESTION_LENGTH];
-    match scan(s, &mut form) {
+    match scan(&text, s.len() as u32, &mut form) {
         Scanned::Outside(p) => refused(11, p),
         Scanned::Whole(n) => {
             if 32 < n {

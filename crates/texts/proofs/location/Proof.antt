@@ -1,22 +1,37 @@
 -- `texts::location` meets its contract. Assumes nothing.
-use mathlib.Core.Path.{refl, subst}
-use Rattle.texts.specs.Descent.{RightNumber}
+use Prim.Native.Nat.{_≤_}
+use native.Mathlib.Omega.{arith}
+use lib.ListN.{length, take}
+use Rattle.texts.proofs.Openings.{take-short}
+use Rattle.texts.proofs.StepCodes.{step-stopped, number-stopped, number-read}
 use Rattle.texts.proofs.Walks.{right-location, right-location-broken}
 use borrow.Author.Needs.{needs}
 use Rattle.texts.proofs.location.Statement.{statement}
 use Rattle.texts.proofs.location.Tie as tie
 
+short : (c : tie.Start) → length (take (c .args .n) (c .args .s .now)) ≤ 400
+short c = take-short (c .args .n) (c .args .s .now) (c .pre .1)
+
 returns : tie.Need-returns
 returns c =
-    let a = c .before .before .before .before .before .before .args in
-    let z = c .before .p .given in
-    right-location-broken (a .s .now) (a .at) (a .rows) (a .t .now) (z .0 .0) (subst (RightNumber (a .s .now) (a .at)) (z .1) (c .before .before .before .number .ensures)) _ (a .t .now) refl
+    let a = c .before .before .args in
+    let s = take (a .n) (a .s .now) in
+    right-location-broken s (a .at) (a .rows) (a .t .now) _ (number-stopped s (a .at) _ (c .before .number .ensures) (c .if1 .taken)) _ (a .t .now) (step-stopped _ (c .if1 .taken))
+
+closed-requires : tie.Need-closed-requires
+closed-requires c κs = omega (arith, short (c .before .before .before))
 
 returns-2 : tie.Need-returns-2
 returns-2 c =
-    let a = c .before .before .before .before .before .before .before .before .before .before .args in
-    let z = c .before .before .before .before .before .v .given in
-    right-location (a .s .now) (a .at) (a .rows) (a .t .now) (z .0 .0) (z .0 .1 .0) (subst (RightNumber (a .s .now) (a .at)) (z .1) (c .before .before .before .before .before .before .before .number .ensures)) _ _ (c .before .before .closed .ensures .1) (c .before .before .closed .ensures .0)
+    let a = c .before .before .before .before .args in
+    let s = take (a .n) (a .s .now) in
+    right-location s (a .at) (a .rows) (a .t .now) _ _ (number-read s (a .at) _ (c .before .before .before .number .ensures) (c .before .before .if1 .left)) _ _ (c .closed .ensures .1) (c .closed .ensures .0)
 
 pub location-spec : {M : Type 1} → statement M
-location-spec = tie.close (tie.spec (λ c κs. search needs) (λ c. search needs) (λ c. search needs) (λ c κs. search needs) returns (λ c. search needs) returns-2)
+location-spec =
+    tie.close
+    (tie.spec
+    (λ c κs. search needs)
+    returns
+    closed-requires
+    returns-2)

@@ -4,6 +4,7 @@ use native.Mathlib.Omega.{arith}
 use Rattle.automata.specs.Questions.{question}
 use Rattle.forms.specs.FormAutomaton.{automatonOf}
 use Rattle.forms.specs.QuestionForm.{rowsOf}
+use Rattle.answers.proofs.Buffer.{cleared-blank}
 use Rattle.checker.proofs.Asked.{lent-as, class-below, yes-reply, yes-contents, no-reply, no-contents, rows-shown}
 use borrow.Author.Needs.{needs}
 use Rattle.checker.proofs.question.answer.Statement.{statement}
@@ -11,8 +12,10 @@ use Rattle.checker.proofs.question.answer.Tie as tie
 
 ask-with-requires : tie.Need-ask-with-requires
 ask-with-requires c κs =
-    let p = c .before .before .before .before .before .before .before .before .before .before .pre in
-    (lent-as _ _ _ (c .before .before .before .before .before .classes-in .ensures) (p .0), p .1, p .2, p .3, omega (arith, p .2, p .4, c .before .before .before .clear .kept .0))
+    let s = c .before .before .before .before .before .before .before .before .before .before in
+    let p = s .pre in
+    let z = c .before .before .before .clear in
+    (lent-as _ _ _ (c .before .before .before .before .before .classes-in .ensures) (p .0), p .1, p .2, p .3, omega (arith, p .2, p .4, z .kept .0), cleared-blank (s .args .rows .now) (p .4) (s .args .count) (z .ensures) (p .2))
 
 class-contents-requires : tie.Need-class-contents-requires
 class-contents-requires c κs =

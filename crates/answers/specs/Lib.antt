@@ -1,0 +1,4 @@
+-- What the contracts of a question's rows and answer cite.
+pub mod Rows
+pub mod RowBuffers
+pub mod Memory
