@@ -2,7 +2,6 @@
 pub mod PlanList
 pub mod LastBelow
 pub mod Blocks
-pub mod Places
 pub mod ChainWalk
 pub mod WordLoop
 pub mod Values
