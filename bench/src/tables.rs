@@ -673,6 +673,27 @@ pub fn star(star: Star, row: usize, rows: usize) -> Case {
     )
 }
 
+/// Thirty arcs of one kind from place 1 to place 2 and thirty back, which keep three registers and leave two open: few
+/// patterns, each of many classes, so that one look tells what many others will find. Place 4 leads to 3 and that to 5.
+/// The question is `rows` rows of EF place 1, or of EG of all places but 5, which loses 3 and then 4.
+pub fn parallel(row: usize, rows: usize) -> Case {
+    let some = "r1=r1 r4=r4 r5=r5";
+    let mut arcs: Vec<Arc> = (0..60).map(|i| arc(1 + i % 2, 2 - i % 2, "", some)).collect();
+    arcs.extend([arc(4, 3, "", "keep"), arc(3, 5, "", "keep")]);
+    let (question, kind) = if row == 8 {
+        (again("1 5 0; 4 1 0", "8 2 0", rows), "EG")
+    } else {
+        (again("1 1 0", &format!("{row} 1 0"), rows), "EF")
+    };
+    at_limit(
+        &format!("{rows} rows of {kind}, 60 arcs of one kind"),
+        "",
+        &arcs,
+        target(1, "r1!=r1"),
+        &question,
+    )
+}
+
 /// A table at every limit with `rows` rows of this kind. `Worst::Set` has a row of steps for each class,
 /// `Worst::Free` all steps that there can be.
 pub fn at_limits(kind: Worst, row: usize, rows: usize) -> Case {

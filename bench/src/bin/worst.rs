@@ -17,8 +17,8 @@ use bench::clock::{now, short};
 use bench::drafts::Draft;
 use bench::plain::{self, Rounds};
 use bench::tables::{
-    at_limits, each_place, fails_late, far_ends, long_run, many_losses, many_rounds, mix, padded, spaced, star,
-    vain_first, worst, Star, Worst,
+    at_limits, each_place, fails_late, far_ends, long_run, many_losses, many_rounds, mix, padded, parallel, spaced,
+    star, vain_first, worst, Star, Worst,
 };
 use engine::random::Random;
 use std::fs;
@@ -301,6 +301,7 @@ fn starts(asking: bool, rows: usize) -> Vec<Draft> {
         for s in [Star::Wide, Star::Narrow] {
             cases.extend([star(s, 12, left(1)), star(s, 8, left(1))]);
         }
+        cases.extend([parallel(12, left(1)), parallel(8, left(2))]);
         for kind in [Worst::Set, Worst::Late, Worst::Free] {
             cases.extend([
                 at_limits(kind, 12, left(1)),
