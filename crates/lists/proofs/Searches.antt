@@ -3,7 +3,7 @@
 use Prim.Native.Nat.{ℕ, zero, suc, _+_, _-_, _≤_, _<_}
 use mathlib.Core.Bool.{Bool, true, false, cond, _&&_, _||_, or-false}
 use mathlib.Core.Logic.{_≢_, _⊎_, inl, inr, ⊎-elim, by-cases}
-use mathlib.Core.Path.{_≡_, refl, sym, ap, _∙_, subst}
+use mathlib.Core.Path.{_≡_, refl, sym, ap, _∙_, subst, subst⁻¹}
 use native.Mathlib.Decide.{ℕ-discrete}
 use native.Mathlib.Omega.{arith}
 use lib.Dec.{T}
@@ -159,6 +159,16 @@ first-before p i (suc n) j h l = go (p i) refl l (first-before p (suc i) n j)
     go : (b : Bool) → p i ≡ b → j < cond b i (firstFrom p (suc i) n) → (suc i ≤ j → j < firstFrom p (suc i) n → p j ≡ false) → p j ≡ false
     go true e k rest = absurd (omega arith)
     go false e k rest = behind (λ m. p m ≡ false) i j h e (λ d. rest d k)
+
+-- it passes, where there is one
+pub first-passes : (p : ℕ → Bool) (i n : ℕ) → firstFrom p i n < i + n → T (p (firstFrom p i n))
+unfolding firstFrom
+first-passes p i zero h = absurd (omega arith)
+first-passes p i (suc n) h = go (p i) refl h (first-passes p (suc i) n)
+  where
+    go : (b : Bool) → p i ≡ b → cond b i (firstFrom p (suc i) n) < i + suc n → (firstFrom p (suc i) n < suc i + n → T (p (firstFrom p (suc i) n))) → T (p (cond b i (firstFrom p (suc i) n)))
+    go true e h rest = subst⁻¹ T e tt
+    go false e h rest = rest (omega arith)
 
 -- and that determines it
 pub first-unique : (p : ℕ → Bool) (i n x : ℕ) → i ≤ x → x ≤ i + n → ((j : ℕ) → i ≤ j → j < x → p j ≡ false) → (x < i + n → T (p x)) → firstFrom p i n ≡ x
