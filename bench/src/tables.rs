@@ -694,6 +694,32 @@ pub fn parallel(row: usize, rows: usize) -> Case {
     )
 }
 
+/// Ten places in a ring, each with an arc to the next that keeps all registers, and five that leave one open; or, `alone`,
+/// twelve places with the first kind only, which makes 674 rings of twelve configurations. Place 14 leads to 13 and that to
+/// 15. The question is `rows` rows of EG of all places but 15, which loses 13 and then 14.
+pub fn ring(alone: bool, rows: usize) -> Case {
+    let (places, name) = if alone { (12, "alone") } else { (10, "and wider ones") };
+    let mut arcs = vec![];
+    for from in 1..=places {
+        let to = from % places + 1;
+        arcs.push(arc(from, to, "", "keep"));
+        for open in 1..=5 {
+            let kept: Vec<String> = (1..=5).filter(|r| *r != open).map(|r| format!("r{r}=r{r}")).collect();
+            if !alone {
+                arcs.push(arc(from, to, "", &kept.join(" ")));
+            }
+        }
+    }
+    arcs.extend([arc(14, 13, "", "keep"), arc(13, 15, "", "keep")]);
+    at_limit(
+        &format!("{rows} rows of EG on rings, {name}"),
+        "",
+        &arcs,
+        target(1, "r1!=r1"),
+        &again("1 15 0; 4 1 0", "8 2 0", rows),
+    )
+}
+
 /// A table at every limit with `rows` rows of this kind. `Worst::Set` has a row of steps for each class,
 /// `Worst::Free` all steps that there can be.
 pub fn at_limits(kind: Worst, row: usize, rows: usize) -> Case {

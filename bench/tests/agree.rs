@@ -4,7 +4,7 @@ use bench::drafts::Draft;
 use bench::plain::{ask, ask_text, reach, Asked, Refusal, Rounds};
 use bench::tables::{
     asked, each_place, fails_late, far_ends, long_run, long_texts, many_losses, many_rounds, mix, padded, parallel,
-    sample, sample_texts, sized, smallest, spaced, spread, star, vain_first, worst, Case, Star, Worst,
+    ring, sample, sample_texts, sized, smallest, spaced, spread, star, vain_first, worst, Case, Star, Worst,
 };
 use engine::generate::{case, Shape};
 use engine::mutate::mutate;
@@ -224,6 +224,9 @@ fn tables_that_hurt() {
     // Places 1 and 2 lead to each other; of all but place 5, places 3 and 4 are lost.
     assert_eq!(alike(&parallel(12, 2), 2), 2 * 674);
     assert_eq!(alike(&parallel(8, 2), 3), 13 * 674);
+    // The rings stay; of all but place 15, places 13 and 14 are lost.
+    assert_eq!(alike(&ring(true, 2), 3), 13 * 674);
+    assert_eq!(alike(&ring(false, 2), 3), 13 * 674);
     alike(&spaced(Worst::Free, 2), 4);
     alike(&each_place(Worst::Keep), 31);
     alike(&asked(sized(Worst::Set, 5, 64, 0), 6, 2), 2);
