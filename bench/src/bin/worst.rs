@@ -3,10 +3,10 @@
 //! `worst SECONDS SEED FOLDER [ROWS [GOAL]]` makes four searches of a quarter of the time each: for questions and for
 //! targets on which the checker takes the most seconds, and on which it takes the most times as long as the plain
 //! implementation (for questions the better of its two ways). With one of the names question-seconds, question-ratio,
-//! target-seconds and target-ratio as goal, only that search is made. Each is hill climbing with restarts: from the tables that are known to hurt and
-//! from random ones at every limit, a few changes at a time, kept if they make it worse. It prints what it found and
-//! writes the worst files into the folder. Questions have at most so many rows, 32 if nothing is said: fewer make a try
-//! shorter, where a row takes seconds.
+//! target-seconds and target-ratio as goal, only that search is made. Each is hill climbing with restarts: from the
+//! tables that are known to hurt and from random ones at every limit, a few changes at a time, kept if they make it worse.
+//! It prints what it found and writes the worst files into the folder. Questions have at most so many rows, 32 if nothing
+//! is said: fewer make a try shorter, where a row takes seconds.
 //!
 //! All that is drawn comes from the seed; what is kept depends on the times that were measured, so two runs with the same
 //! seed begin alike and may part.
