@@ -2,5 +2,5 @@
 pub mod NodeSets
 pub mod Picks
 pub mod QueueSearch
-pub mod Cycles
+pub mod EndlessSearch
 pub mod FirstRound

@@ -2,4 +2,4 @@
 pub mod Rounds
 pub mod Picks
 pub mod QueueSearch
-pub mod Cycles
+pub mod EndlessSearch
