@@ -453,34 +453,6 @@ question(b"     2           1\n", 2, 1, "a row of kind 2 as a line 2 of a table"
 question(b"     2     1           2\n", 2, 1, "a row of kind 2 with a wide field")
 question(b"     2  4294967296\n", 5, 1, "a row of kind 2 whose fields are 4294 and 967296")
 
-# W5: a line is turned back at the byte that shows it, whatever follows, and its number is that of the whole line
-table(b" ", 2, 1, "one blank")
-table(b"1", 2, 1, "one digit")
-table(b"     1", 2, 1, "a field, and no byte 10")
-table(SAMPLE_BYTES + b"     8", 2, 17, "a field after the last line")
-table(SAMPLE_BYTES + lines(SAMPLE[15])[:-1], 2, 17, "a whole line after the last, but for its byte 10")
-table(sample(16, (8, 2, 9, 1)) + b"     8", 5, 16, "5 at its line, before a line without byte 10")
-table(lines(*SAMPLE[:7]) + b"     6     1     1     2  \n", 2, 8, "two blanks after the last field")
-table(lines(*SAMPLE[:7]) + b"     6     1     1     2     \n", 2, 8, "five blanks after the last field")
-table(lines(*SAMPLE[:5]) + b"     5     1     1     1     3     1 \n", 2, 6, "a blank after six fields")
-table(lines(*SAMPLE[:5]) + b"     5     1     1     1     3     17\n", 2, 6, "a digit after six fields")
-table(lines(*SAMPLE[:5]) + b"     5     1     1     1     3     1\xff\n", 2, 6, "byte 255 after six fields")
-table(nobody(b"     2      \n"), 2, 2, "an identifier's field of six blanks")
-table(nobody(b"     2     0\n"), 2, 2, "an identifier in the first six of its columns")
-table(lines(*SAMPLE[:2]) + b"     9     9\n     3    01\n", 2, 3, "of two lines that are turned back the first")
-table(lines(*SAMPLE[:2]) + b"     3    01\n" + lines((3, 9)), 2, 3, "2 at its line before 5 at the next")
-table(lines(*SAMPLE[:2]) + b"     3     9\n     3    01\n", 5, 3, "5 at its line before 2 at the next")
-table(b" " * 40000, 2, 1, "blanks up to the limit")
-table(b"     1" * 6666, 2, 1, "a line of numbers up to the limit")
-table(SAMPLE_BYTES + b"1" * (40000 - len(SAMPLE_BYTES)), 2, 17, "digits after the last line up to the limit")
-target(b"     4", 2, 1, "a field, and no byte 10")
-target(lines((4, 3)) + b"     5", 2, 2, "a field after the last line")
-target(lines((4, 3)) + b" ", 2, 2, "a blank after the last line")
-question(b"     1     3     0", 2, 1, "a row, and no byte 10")
-question(lines((1, 3, 0)) + b"    14     1     0", 2, 2, "a row after the last line, and no byte 10")
-question(b"     1     3     0     0     0     0     \n", 2, 1, "blanks in a seventh field")
-question(b"     1     3     0     0\n", 2, 1, "a row of four fields")
-
 
 def write(path, content):
     if content is FOLDER:

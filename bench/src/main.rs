@@ -8,8 +8,8 @@ use bench::checker;
 use bench::clock::{now, short};
 use bench::plain::{self, Rounds};
 use bench::tables::{
-    asked, at_limits, each_place, fails_late, far_ends, long_run, long_texts, many_losses, many_rounds, mix, opened,
-    padded, sample, sample_texts, sized, smallest, spaced, spread, star, vain_first, worst, Case, Star, Text, Worst,
+    asked, at_limits, each_place, fails_late, far_ends, long_run, long_texts, many_losses, many_rounds, mix, padded,
+    sample, sample_texts, sized, smallest, spaced, spread, star, vain_first, worst, Case, Star, Text, Worst,
 };
 use std::hint::black_box;
 
@@ -139,52 +139,6 @@ fn asking_text(table: &[u8], t: &Text) {
     } else {
         let times = time(&mut [&mut whole, &mut back]);
         line(&t.name, None, &times);
-    }
-}
-
-/// Copies byte after byte; the compiler may not see that a whole block could be copied at once.
-fn copy(from: &[u8], to: &mut [u8]) {
-    for (b, place) in from.iter().zip(to) {
-        *place = black_box(*b);
-    }
-}
-
-/// What opening a table costs, in nanoseconds a byte: a call with an empty question, which is turned back behind the table,
-/// beside the engine's reader, the plain implementation and a loop that only copies the bytes.
-fn opening() {
-    println!(
-        "\n{:<48}{:>8}{:>10}{:>10}{:>8}{:>10}{:>8}{:>10}{:>8}",
-        "opening a table: nanoseconds a byte", "bytes", "checker", "engine", "ratio", "plain", "ratio", "copy", "ratio"
-    );
-    for c in opened() {
-        let plainly = plain::ask(&c.table, &[], Rounds::Back).err().map(|r| r.number);
-        assert_eq!(plainly, Some(c.refused), "{}", c.name);
-        let read = engine::read::read_table(&c.table).err().map(|r| r.number);
-        assert_eq!(read.unwrap_or(2), c.refused, "{}", c.name);
-        if let Some(code) = checker::ask(&c.table, &[]) {
-            assert_eq!(code, 100 + c.refused, "{}", c.name);
-        }
-        let mut buffer = vec![0; c.table.len()];
-        let mut ours = || {
-            black_box(checker::ask(black_box(&c.table), black_box(&[])));
-        };
-        let mut engine = || {
-            black_box(engine::read::read_table(black_box(&c.table)).is_ok());
-        };
-        let mut plain = || {
-            black_box(plain::ask(black_box(&c.table), black_box(&[]), Rounds::Back).is_ok());
-        };
-        let mut copies = || copy(black_box(&c.table), black_box(&mut buffer));
-        let times = time(&mut [&mut ours, &mut engine, &mut plain, &mut copies]);
-        let each = |t: Time| 1e9 * t.median / c.table.len() as f64;
-        let mine = checker::LINKED.then(|| each(times[0]));
-        let mut text = format!("{:<48}{:>8}", c.name, c.table.len());
-        text.push_str(&mine.map_or(format!("{:>10}", "-"), |m| format!("{m:>10.2}")));
-        for t in &times[1..] {
-            text.push_str(&format!("{:>10.2}", each(*t)));
-            text.push_str(&mine.map_or(format!("{:>8}", "-"), |m| format!("{:>8.2}", m / each(*t))));
-        }
-        println!("{text}{:>7.1} %", times[0].spread);
     }
 }
 
@@ -327,18 +281,12 @@ fn growing() {
 }
 
 fn run() {
-    let said = |word: &str| std::env::args().any(|a| a == word);
-    let all = said("all");
+    let all = std::env::args().any(|a| a == "all");
     println!("Medians. Ratio: the checker's time to the plain implementation's. Spread: the middle half of the checker's trials.");
     println!("Buffers: the C functions have working buffers of their own and clear them at each call; the plain implementation");
     println!("allocates and clears its vectors at each call. The smallest table shows what that costs.");
     if !checker::LINKED {
         println!("The checker is not linked (no target/staticlib/libchecker.a): the plain implementation alone.");
-    }
-
-    opening();
-    if said("opening") {
-        return;
     }
 
     header("reaching", &["plain"]);

@@ -173,60 +173,6 @@ pub fn smallest() -> Case {
     }
 }
 
-/// A table with every line that the limits allow.
-fn fullest() -> Vec<u8> {
-    let mut bytes = Vec::new();
-    line(&mut bytes, &[1, 5, 2, 16, 16, 64]);
-    constant(&mut bytes, 4_294_967_294);
-    constant(&mut bytes, 4_294_967_295);
-    for _ in 0..16 {
-        line(&mut bytes, &[3, 3]);
-    }
-    line(&mut bytes, &[4, 16]);
-    conditions(&mut bytes, 5, "r1=c1 r2!=r1 r3=r3 r4=c2 r5=c1 r1!=c2 r2=r2 r3!=r4");
-    for i in 0..64 {
-        line(&mut bytes, &[6, 1 + i % 16, 1 + i * 7 % 16, 1 + i * 5 % 16]);
-        conditions(&mut bytes, 7, "p1!=r1 p2!=c1 r3=r3 p3!=r5 r4=p2 p1!=c2 r2=r1 p3!=p1");
-        for register in 1..=5 {
-            line(&mut bytes, &[8, register, 1 + (i + register) % 3, 1 + i % 2]);
-        }
-    }
-    bytes
-}
-
-/// A table that is opened, and the refusal's number where an empty question follows: 2, of the question, if the table is good.
-pub struct Opened {
-    pub name: &'static str,
-    pub table: Vec<u8>,
-    pub refused: u32,
-}
-
-/// The tables whose reading is timed.
-pub fn opened() -> Vec<Opened> {
-    let full = fullest();
-    let with = |more: &[u8]| [&full[..], more].concat();
-    // The last line names a register that is not there.
-    let mut wrong = full.clone();
-    let end = wrong.len() - 1;
-    wrong[end - 7] = b'1';
-    wrong[end - 1] = b'6';
-    let mut open = with(b"     7");
-    open.resize(40_000, b'7');
-    let case = |name, table, refused| Opened { name, table, refused };
-    vec![
-        case("the largest table", full.clone(), 2),
-        case("the same, its last line out of range", wrong, 5),
-        case(
-            "the same and the longest line, one too many",
-            with(b"     2           1     1     1     1     1\n"),
-            2,
-        ),
-        case("the same and a line without end", open, 2),
-        case("sample", sample().table, 2),
-        case("smallest", smallest().table, 2),
-    ]
-}
-
 /// Nine workflows as a translators' co-operative has them; constant 1 is nobody.
 pub fn mix() -> Vec<Case> {
     vec![

@@ -208,40 +208,6 @@ fn wrong_bytes() {
     });
 }
 
-/// A file with its byte i left out, and with others put in front of it.
-fn shifted(bytes: &[u8], i: usize) -> Vec<Vec<u8>> {
-    let (front, rest) = bytes.split_at(i);
-    let mut files = vec![[front, &rest[1..]].concat()];
-    for more in [&b"\n"[..], b" ", b"0", b"7", b"      ", b"     1"] {
-        files.push([front, more, rest].concat());
-    }
-    files
-}
-
-/// Every byte of the sample's files left out, and bytes and fields put in front of it: what follows stands in other
-/// columns.
-#[test]
-fn shifted_bytes() {
-    on_stack(|| {
-        let f = sample();
-        for i in 0..f.table.len() {
-            for table in shifted(&f.table, i) {
-                compare(&table, &f.target, &f.question, &format!("byte {i} of the table"));
-            }
-        }
-        for i in 0..f.target.len() {
-            for target in shifted(&f.target, i) {
-                compare(&f.table, &target, &f.question, &format!("byte {i} of the target"));
-            }
-        }
-        for i in 0..f.question.len() {
-            for question in shifted(&f.question, i) {
-                compare(&f.table, &f.target, &question, &format!("byte {i} of the question"));
-            }
-        }
-    });
-}
-
 /// Lines 2 at the limits of an identifier and of its columns, as the first and as the second constant.
 #[test]
 fn identifiers() {

@@ -71,13 +71,13 @@ abbrev Table : List ℕ → List ℕ → Type 0
 Table s t = open_table s ≡ accepted t
 
 -- a reply good, or bad at a moment, is a verdict
-verdict-told : (o : Judged Verdict) (v : Verdict) → replayed o ≡ replied v → o ≡ accepted v
-verdict-told (accepted good) good e = refl
-verdict-told (accepted good) (bad m) e = let z : ◌≡◌ {A = ℕ} 0 1 = cc in absurd (omega arith)
-verdict-told (accepted (bad k)) good e = let z : ◌≡◌ {A = ℕ} 0 1 = cc in absurd (omega arith)
-verdict-told (accepted (bad k)) (bad m) e = let p : k ≡ m = cc in ap (λ x. accepted (bad x)) p
-verdict-told (refused r) good e = let z : ◌≡◌ {A = ℕ} 0 1 = cc in absurd (omega arith)
-verdict-told (refused r) (bad m) e = let z : ◌≡◌ {A = ℕ} 0 1 = cc in absurd (omega arith)
+verdict_told : (o : Judged Verdict) (v : Verdict) → replayed o ≡ replied v → o ≡ accepted v
+verdict_told (accepted good) good e = refl
+verdict_told (accepted good) (bad m) e = let z : ◌≡◌ {A = ℕ} 0 1 = cc in absurd (omega arith)
+verdict_told (accepted (bad k)) good e = let z : ◌≡◌ {A = ℕ} 0 1 = cc in absurd (omega arith)
+verdict_told (accepted (bad k)) (bad m) e = let p : k ≡ m = cc in ap (λ x. accepted (bad x)) p
+verdict_told (refused r) good e = let z : ◌≡◌ {A = ℕ} 0 1 = cc in absurd (omega arith)
+verdict_told (refused r) (bad m) e = let z : ◌≡◌ {A = ℕ} 0 1 = cc in absurd (omega arith)
 
 -- of a table that was opened
 of_table : (s : List ℕ) (verdict : List ℕ → Verdict) (v : Verdict) → (open_table s then (λ t. accepted (verdict t))) ≡ accepted v → (t : List ℕ) × Table s t × (verdict t ≡ v)
@@ -93,7 +93,7 @@ module _ (s : List ℕ) where
     -- a verdict on a run of the right length
     judged : (v : Verdict) → replay_reply s run ≡ replied v → (whole_length (length run) ≡ true) × ((t : List ℕ) × Table s t × (judge_flat (automaton_of t) run ≡ v))
     judged v e =
-        let (w, d) = required (refusal 9 0 0) (λ ok. open_table s then judging s run) (whole_length (length run)) v (verdict-told (require (whole_length (length run)) (refusal 9 0 0) then (λ ok. open_table s then judging s run)) v e) in
+        let (w, d) = required (refusal 9 0 0) (λ ok. open_table s then judging s run) (whole_length (length run)) v (verdict_told (require (whole_length (length run)) (refusal 9 0 0) then (λ ok. open_table s then judging s run)) v e) in
         (w, of_table s (λ t. judge_flat (automaton_of t) run) v d)
 
     -- good exactly if the numbers are the flat form of a run from a permitted start of the table
@@ -131,7 +131,7 @@ module _ (s : List ℕ) where
     verdict t = judge (automaton_of t) start steps
 
     steps-judged : (v : Verdict) → replay_steps_reply s start steps ≡ replied v → (t : List ℕ) × Table s t × (verdict t ≡ v)
-    steps-judged v e = of_table s verdict v (verdict-told (open_table s then (λ t. accepted (verdict t))) v e)
+    steps-judged v e = of_table s verdict v (verdict_told (open_table s then (λ t. accepted (verdict t))) v e)
 
     steps-told : (t : List ℕ) (v : Verdict) → Table s t → verdict t ≡ v → replay_steps_reply s start steps ≡ replied v
     steps-told t v o e = ap (λ x. replayed (x then (λ u. accepted (verdict u)))) o ∙ ap replied e

@@ -1,5 +1,5 @@
 -- The numbers of a line fit in their columns, and each has six at least. Assumes nothing.
-use Prim.Native.Nat.{ℕ, zero, suc, ◌+◌, ◌*◌, ◌-◌, ◌^◌, ◌≤◌, ◌<◌}
+use Prim.Native.Nat.{ℕ, zero, suc, ◌+◌, ◌*◌, ◌^◌, ◌≤◌, ◌<◌}
 use mathlib.Core.Bool.{Bool, true, false, cond}
 use mathlib.Core.List.{List, [], ◌∷◌, ◌++◌}
 use mathlib.Core.Option.{Option, some, none}
@@ -14,16 +14,7 @@ use Rattle.columns.proofs.Columns.{width_is}
 use Rattle.fields.specs.Format.{glyph_of, on_digit, digits_from, on_field, field, field_in, next_width, on_number, fields_after, fields}
 use Rattle.fields.specs.declared.Glyph.{Glyph}
 use Rattle.fields.specs.declared.Glyph.TheVariants.{Blank, Digit, Other}
-
-low : (p q r : Bool) (b d : ℕ) → leb b 57 ≡ r → cond p Blank (cond q (cond r (Digit (b - 48)) Other) Other) ≡ Digit d → d ≤ 9
-low true q r b d h e = let z : ◌≡◌ {A = ℕ} 0 1 = cc in omega arith
-low false false r b d h e = let z : ◌≡◌ {A = ℕ} 0 1 = cc in omega arith
-low false true false b d h e = let z : ◌≡◌ {A = ℕ} 0 1 = cc in omega arith
-low false true true b d h e = let z : b - 48 ≡ d = cc in omega (arith, leb-true b 57 h)
-
-pub digit_low : (b d : ℕ) → glyph_of b ≡ Digit d → d ≤ 9
-unfolding glyph_of
-digit_low b d e = low (eqb b 32) (leb 48 b) (leb b 57) b d refl e
+use Rattle.fields.proofs.LineParts.{digit_low}
 
 pub no_number_lem : {A : Type 0} {B : Type 0} {w : B} → none ≡ some w → A
 no_number_lem e = let z : ◌≡◌ {A = ℕ} 0 1 = cc in absurd (omega arith)

@@ -1,11 +1,14 @@
--- What holds of every file that is accepted or refused follows from the rules for a line (`file_keeps`, `file_numbers`).
+-- Reading line after line gives what `LineFiles.read_file` says (`read-long`, `read-onward`, `onward-end`, `onward_open`, `onward-accepted`, `onward-refused`), and what
+-- holds of every file that is accepted or refused follows from the rules for a line (`file_keeps`, `file_numbers`).
 -- Assumes nothing.
-use Prim.Native.Nat.{ℕ, suc, ◌+◌, ◌*◌, ◌≤◌}
+use Prim.Native.Nat.{ℕ, suc, ◌+◌, ◌*◌, ◌-◌, ◌≤◌, ◌<◌}
 use native.Mathlib.Omega.{arith}
-use borrow.Author.Tests.{ltb-false, eqb-true}
+use borrow.Author.Tests.{le-ltb, lt-ltb, ltb-false, eqb-true, eq-eqb, ne_eqb}
 use lib.Dec.{eqb, ltb}
-use lib.ListN.{length}
-use mathlib.Core.Path.{◌≡◌, refl, ◌∙◌, ap, subst}
+use lib.ListN.{length, take, drop, length-drop, drop_of_length-le}
+use lib.Seq.{drop-drop}
+use mathlib.Core.Logic.{◌≢◌}
+use mathlib.Core.Path.{◌≡◌, refl, sym, ◌∙◌, ap, ap₂, subst}
 use mathlib.Core.List.{List, [], ◌∷◌}
 use mathlib.Core.Bool.{Bool, true, false, cond}
 use mathlib.Core.Option.{Option, some, none}
@@ -15,6 +18,9 @@ use Rattle.refusals.specs.declared.Refusal.{Refusal}
 use Rattle.lists.specs.Arrays.{padded}
 use Rattle.fields.specs.Format.{fields, onto, pieces}
 use Rattle.fields.specs.LineFiles.{Rules, row_of, judge_line, judged, read_lines, read_file}
+use Rattle.fields.specs.LineRead.{part, count_of, Held, judge_read}
+use Rattle.fields.specs.declared.Line.{Line}
+use Rattle.fields.proofs.LineParts.{piece_front, piece_last, piece_next}
 use Rattle.fields.proofs.Digits.{fields-least}
 
 pub not-accepted : {A S : Type 0} (x : Refusal) (u : S) → refused x ≡ accepted u → A
@@ -42,8 +48,77 @@ abbrev pub Numbered : {S : Type 0} → (ℕ → Type 0) → Judged S → Type 0
 Numbered P (accepted s) = Unit {0}
 Numbered P (refused x) = P x.number
 
+-- a line that is read is judged as the line is, and its row is the line's where it is not refused
+judge-is : (judge : ℕ → List ℕ → ℕ) (o : Option (List ℕ)) (l : Line) (row : List ℕ) → l ≡ count_of o → Held o row → judge_read judge l row ≡ judge_line judge o
+judge-is judge none l row e h = rw e
+judge-is judge (some fs) l row e h = rw (e, h)
+
+row_is : (judge : ℕ → List ℕ → ℕ) (o : Option (List ℕ)) (row : List ℕ) → Held o row → judge_line judge o ≡ 0 → row ≡ row_of o
+row_is judge none row h z = absurd (omega arith)
+row_is judge (some fs) row h z = h
+
 module _ {S : Type 0} (r : Rules S) where
   module _ (file : ℕ) where
+    -- Line after line, from the byte i of a file on
+
+    abbrev pub onward : List ℕ → ℕ → S → ℕ → Judged S
+    onward bytes n s i = read_lines r file n s (pieces (drop i bytes)).0 (pieces (drop i bytes)).1
+
+    module _ (bytes : List ℕ) (limit : ℕ) (s : S) where
+      pub read-long : limit < length bytes → read_file r file limit s bytes ≡ refused (refusal 1 file 0)
+      unfolding read_file
+      read-long h = simp (lt-ltb limit (length bytes) h)
+
+      pub read-onward : length bytes ≤ limit → read_file r file limit s bytes ≡ onward bytes 0 s 0
+      unfolding read_file
+      read-onward h = simp (le-ltb limit (length bytes) h)
+
+    module _ (bytes : List ℕ) (n : ℕ) (s : S) (i : ℕ) where
+      -- at the end of the file
+      pub onward-end : length bytes ≤ i → onward bytes n s i ≡ cond (r.complete s) (accepted s) (refused (refusal 2 file (n + 1)))
+      onward-end h = rw (drop_of_length-le bytes {i = i} h)
+
+      module _ (e : ℕ) (is : e ≡ i + length (pieces (drop i bytes)).0) where
+        -- a line that has no byte 10
+        pub onward_open : i < length bytes → length bytes ≤ e → onward bytes n s i ≡ refused (refusal 2 file (n + 1))
+        onward_open h k =
+            let size = length-drop i bytes in
+            let z : length (drop i bytes) ≤ length (pieces (drop i bytes)).0 = omega (arith, size) in
+            rw (piece_last (drop i bytes) z) (go (pieces (drop i bytes)).0 (omega (arith, size)))
+          where
+            go : (l : List ℕ) → 0 < length l → read_lines r file n s l [] ≡ refused (refusal 2 file (n + 1))
+            go [] h = absurd (omega arith)
+            go (b ∷ l) h = refl
+
+        -- a whole line
+        pub onward-line : e < length bytes → let o : Option (List ℕ) = fields r.sheet 6 (part bytes i e) in
+            onward bytes n s i ≡ judged file (n + 1) (judge_line (r.judge s) o) (onward bytes (n + 1) (r.accept s (row_of o)) (e + 1))
+        onward-line h =
+            let m : ℕ = length (pieces (drop i bytes)).0 in
+            let size : m ≡ e - i = omega arith in
+            let after : i + suc m ≡ e + 1 = omega arith in
+            let front : (pieces (drop i bytes)).0 ≡ part bytes i e = piece_front (drop i bytes) ∙ ap (λ k. take k (drop i bytes)) size in
+            let rest : drop (suc m) (drop i bytes) ≡ drop (e + 1) bytes = drop-drop (suc m) i bytes ∙ ap (λ k. drop k bytes) after in
+            let next = piece_next (drop i bytes) (omega (arith, length-drop i bytes)) ∙ ap (λ l. (pieces l).0 ∷ (pieces l).1) rest in
+            ap₂ (λ l ls. read_lines r file n s l ls) front next
+
+        -- what the code knows of it: the line l and its row as they are read, and the refusal x
+        module _ (h : e < length bytes) (l : Line) (row : List ℕ) (x : ℕ) (count : l ≡ count_of (fields r.sheet 6 (part bytes i e)))
+            (held : Held (fields r.sheet 6 (part bytes i e)) row) (v : x ≡ judge_read (r.judge s) l row) where
+          refusal_is : x ≡ judge_line (r.judge s) (fields r.sheet 6 (part bytes i e))
+          refusal_is = v ∙ judge-is (r.judge s) (fields r.sheet 6 (part bytes i e)) l row count held
+
+          pub onward-accepted : x ≡ 0 → onward bytes n s i ≡ onward bytes (n + 1) (r.accept s row) (e + 1)
+          onward-accepted z =
+              let o : Option (List ℕ) = fields r.sheet 6 (part bytes i e) in
+              let same : row ≡ row_of o = row_is (r.judge s) o row held (sym refusal_is ∙ z) in
+              onward-line h ∙ simp (eq-eqb (judge_line (r.judge s) o) 0 (sym refusal_is ∙ z)) (ap (λ f. onward bytes (n + 1) (r.accept s f) (e + 1)) (sym same))
+
+          pub onward-refused : x ≢ 0 → onward bytes n s i ≡ refused (refusal x file (n + 1))
+          onward-refused z = onward-line h ∙ simp (← refusal_is, ne_eqb x 0 z)
+
+    -- Every file
+
     -- what every line that is accepted keeps, with the number of bytes so far, holds at the end of a file that is accepted
     module _ (limit : ℕ) (Q : ℕ → S → Type 0)
         (step : (m k : ℕ) (s : S) (fs : List ℕ) → r.judge s (length fs) (padded 6 fs) ≡ 0 → 6 * length fs ≤ k → m + (k + 1) ≤ limit → Q m s → Q (m + (k + 1)) (r.accept s (padded 6 fs)))

@@ -6,7 +6,7 @@ use mathlib.Core.Logic.{◌≢◌}
 use mathlib.Core.Path.{◌≡◌, sym, subst}
 use native.Mathlib.Omega.{arith}
 use lib.ListN.{length, get_or, length-replicate}
-use Rattle.lists.proofs.Arrays.{six, length-filled, filled_at, filled-kept, filled-each, zeros_at}
+use Rattle.lists.proofs.Arrays.{length-filled, filled_at, filled-kept, filled-each, zeros_at}
 use Rattle.graphs.proofs.Lists.{up_from_agree}
 use Rattle.forms.specs.TableForm.{row_count, form_length, cell, put, without}
 
@@ -20,6 +20,10 @@ in_form t row e h = omega arith
 -- the six numbers of a row
 abbrev pub row_at : List ℕ → ℕ → List ℕ
 row_at t x = cell t x 0 ∷ cell t x 1 ∷ cell t x 2 ∷ cell t x 3 ∷ cell t x 4 ∷ cell t x 5 ∷ []
+
+-- six numbers of a list
+abbrev pub six : List ℕ → List ℕ
+six f = get_or f 0 0 ∷ get_or f 1 0 ∷ get_or f 2 0 ∷ get_or f 3 0 ∷ get_or f 4 0 ∷ get_or f 5 0 ∷ []
 
 -- a form with no lines
 pub length_without : (n : ℕ) → length (without n) ≡ 6 * n

@@ -20,7 +20,7 @@ use Rattle.grammar.specs.Parser.{Read, Parser, paired, chain, seq, each, value_o
 use Rattle.grammar.specs.Parser.AfterE.{temporal}
 use Rattle.grammar.specs.Parser.Read.{got, stop}
 use Rattle.grammar.proofs.ParserLaws.{Grammar, Outcome, Reads, Seq, reads_seq, Byte, reads_token, reads_each}
-use Rattle.grammar.proofs.NumberTexts.{Before, Number, reads_number, number-ahead}
+use Rattle.grammar.proofs.NumberTexts.{Before, Number, reads_number, number_ahead}
 
 -- Questions as a grammar
 
@@ -58,9 +58,9 @@ before_end (joined o p q) = tt
 before_end (until p q) = tt
 
 pub before_ahead : (q : Question) (d : List ℕ) (b : ℕ) (x y : List ℕ) → BeforeQuestion q (d ++ (b ∷ x)) → BeforeQuestion q (d ++ (b ∷ y))
-before_ahead (basic (at l)) d b x y h = number-ahead l d b x y h
-before_ahead (basic (equal i j)) d b x y h = number-ahead j d b x y h
-before_ahead (basic (is i j)) d b x y h = number-ahead j d b x y h
+before_ahead (basic (at l)) d b x y h = number_ahead l d b x y h
+before_ahead (basic (equal i j)) d b x y h = number_ahead j d b x y h
+before_ahead (basic (is i j)) d b x y h = number_ahead j d b x y h
 before_ahead (negated q) d b x y h = before_ahead q d b x y h
 before_ahead (E o q) d b x y h = before_ahead q d b x y h
 before_ahead (A o q) d b x y h = before_ahead q d b x y h

@@ -55,9 +55,9 @@ tens d e h = omega arith
 units : (d e : ℕ) → e < 10 → (10 * d + e) % 10 ≡ e
 units d e h = omega arith
 
-pub number-ahead : (v : ℕ) (d : List ℕ) (b : ℕ) (x y : List ℕ) → Before v (d ++ (b ∷ x)) → Before v (d ++ (b ∷ y))
-number-ahead v [] b x y h = h
-number-ahead v (c ∷ d) b x y h = h
+pub number_ahead : (v : ℕ) (d : List ℕ) (b : ℕ) (x y : List ℕ) → Before v (d ++ (b ∷ x)) → Before v (d ++ (b ∷ y))
+number_ahead v [] b x y h = h
+number_ahead v (c ∷ d) b x y h = h
 
 module _ (n : ℕ) where
   -- after the first digit b
@@ -117,4 +117,4 @@ module _ (n : ℕ) where
       (λ ge. rw (digits_two v (omega arith)) (two_complete v t (omega arith) k))
 
   pub reads_number : Reads Number n number
-  reads_number = record { outcome = number_outcome; complete = number-complete; example = (1, tt); ahead = number-ahead }
+  reads_number = record { outcome = number_outcome; complete = number-complete; example = (1, tt); ahead = number_ahead }

@@ -4,40 +4,14 @@ use Prim.Native.Nat.{ℕ, zero, suc, ◌+◌, ◌*◌, ◌-◌, ◌≤◌, ◌<�
 use mathlib.Core.List.{List, [], ◌∷◌, ◌++◌, map, map-append, Memᴰ}
 use mathlib.Core.Logic.{◌≢◌, ◌⊎◌, inl, inr, ⊎_elim, by_cases}
 use mathlib.Core.Path.{◌≡◌, refl, sym, ap, ap₂, ◌∙◌}
-use mathlib.Core.Bool.{Bool, true, false, cond}
-use borrow.Author.Tests.{eqb-true, eqb-false}
-use lib.Dec.{eqb}
 use native.Mathlib.Decide.{ℕ_discrete, dec_lt}
 use native.Mathlib.Nat.{zero-add, mul-le-mul_left}
 use native.Mathlib.Numerals.{add-one}
 use native.Mathlib.Omega.{arith}
-use lib.ListN.{length, get_or, take, drop, set, replicate, get_or-replicate, length-replicate, length-set, length-map, length-append, length-take, length-drop, get_or-eq_default}
+use lib.ListN.{length, get_or, take, drop, set, replicate, get_or-replicate, length-replicate, length-set, length-map, length-append, length-take, length-drop, get_or-append, get_or-eq_default}
 use lib.Seq.{paste, take-length, get_or-set_same, get_or-set_other, get_or-take, get_or-drop, take-append_seam, drop_at, ext_get_or}
 use Rattle.lists.specs.Arrays.{padded, written, Kept}
 use Rattle.lists.specs.Filling.{Begins, filled}
-
--- Six numbers, as an array of six is written out
-
-abbrev pub six : List ℕ → List ℕ
-six f = get_or f 0 0 ∷ get_or f 1 0 ∷ get_or f 2 0 ∷ get_or f 3 0 ∷ get_or f 4 0 ∷ get_or f 5 0 ∷ []
-
-pub six_numbers : (f : List ℕ) → length f ≡ 6 → six f ≡ f
-six_numbers [] h = absurd (omega arith)
-six_numbers (a ∷ []) h = absurd (omega arith)
-six_numbers (a ∷ b ∷ []) h = absurd (omega arith)
-six_numbers (a ∷ b ∷ c ∷ []) h = absurd (omega arith)
-six_numbers (a ∷ b ∷ c ∷ d ∷ []) h = absurd (omega arith)
-six_numbers (a ∷ b ∷ c ∷ d ∷ e ∷ []) h = absurd (omega arith)
-six_numbers (a ∷ b ∷ c ∷ d ∷ e ∷ g ∷ []) h = refl
-six_numbers (a ∷ b ∷ c ∷ d ∷ e ∷ g ∷ k ∷ f) h = absurd (omega arith)
-
--- one of them is stored
-pub set_at : (f : List ℕ) (n v i : ℕ) → i < length f → cond (eqb n i) v (get_or f i 0) ≡ get_or (set f n v) i 0
-set_at f n v i h = by (eqb n i) refl
-  where
-    by : (k : Bool) → eqb n i ≡ k → cond k v (get_or f i 0) ≡ get_or (set f n v) i 0
-    by true e = let z : n ≡ i = eqb-true n i e in sym (ap (λ m. get_or (set f m v) i 0) z ∙ get_or-set_same f i v 0 h)
-    by false e = sym (get_or-set_other f n i v 0 (λ z. eqb-false n i e (sym z)))
 
 -- Zeros behind
 

@@ -43,8 +43,8 @@ module _ (a : Automaton) (wf : T (well_formed a)) where
   same-conf s t p q e =
       sym (numbered-number a (conf a s) (conf-listed a wf s p)) ∙ ap (numbered a) e ∙ numbered-number a (conf a t) (conf-listed a wf t q)
 
-  step-on : (s : State) (m : Move) → T (is_step a s m) → Proper a (after a m)
-  step-on s m h = step-proper a wf s (after a m) (record { move = m; fits = h; ends = refl })
+  step_on : (s : State) (m : Move) → T (is_step a s m) → Proper a (after a m)
+  step_on s m h = step-proper a wf s (after a m) (record { move = m; fits = h; ends = refl })
 
   -- Only one move from a state to a configuration is the smallest
 
@@ -78,7 +78,7 @@ module _ (a : Automaton) (wf : T (well_formed a)) where
   one-path n s (m ∷ ms) (m' ∷ ns) (p, ps) (q, qs) e =
       let rest : map (λ x. number a (conf a x)) (states a (after a m) ms) ≡ map (λ x. number a (conf a x)) (states a (after a m') ns) = cc in
       let here : number a (conf a (after a m)) ≡ number a (conf a (after a m')) = head (after a m) ms (after a m') ns rest in
-      let same = same-conf (after a m) (after a m') (step-on s m p.leads.step) (step-on s m' q.leads.step) here in
+      let same = same-conf (after a m) (after a m') (step_on s m p.leads.step) (step_on s m' q.leads.step) here in
       let one : m' ≡ m = one-smallest n s (conf a (after a m')) m' m q (subst (λ d. Smallest n a s d m) same p) in
       let more = one-path n (after a m) ms ns ps (subst (λ x. AllSmallest n a (after a x) ns) one qs) (rest ∙ ap (λ x. map (λ y. number a (conf a y)) (states a (after a x) ns)) one) in
       cc

@@ -12,10 +12,9 @@ use lib.ListN.{length, get_or, length-replicate}
 use Rattle.refusals.specs.Judged.Judged.{accepted}
 use Rattle.lists.specs.Arrays.{padded}
 use Rattle.graphs.proofs.Lists.{T_true}
-use Rattle.columns.specs.declared.Sheet.TheVariants.{Plain}
-use Rattle.fields.specs.FileSteps.{judge_scan}
-use Rattle.fields.specs.declared.Scan.{Scan}
-use Rattle.fields.proofs.FileSteps.{scan-accepted}
+use Rattle.fields.specs.LineRead.{judge_read}
+use Rattle.fields.specs.declared.Line.{Line}
+use Rattle.fields.specs.declared.Line.TheVariants.{Fields, Spoilt}
 use Rattle.fields.proofs.LineFiles.{file_keeps}
 use Rattle.automata.specs.Automaton.{Automaton}
 use Rattle.automata.specs.Questions.{Row, Use, kind_of}
@@ -63,10 +62,11 @@ module _ (c : Counts) (n m : ℕ) (r : c.registers ≤ m) (k : c.constants ≤ m
       let (v, s, t) = both-passed (inside 14 f.kind) (judge_field c n (kind_of f.kind).first f.first) (judge_field c n (kind_of f.kind).second f.second) e in
       (omega (arith, inside→ 14 f.kind v), field-small (kind_of f.kind).first f.first s, field-small (kind_of f.kind).second f.second t)
 
-  -- of a line that ends
-  pub line_small : (x : Scan) (k : ℕ) → k ≡ judge_scan Plain (judge_fields c n) x → k ≡ 0 → 14 ≤ m → (get_or x.numbers 0 0 ≤ m) × (get_or x.numbers 1 0 ≤ m) × (get_or x.numbers 2 0 ≤ m)
+  -- of a line as it is read
+  pub line_small : (l : Line) (f : List ℕ) (x : ℕ) → x ≡ judge_read (judge_fields c n) l f → x ≡ 0 → 14 ≤ m → (get_or f 0 0 ≤ m) × (get_or f 1 0 ≤ m) × (get_or f 2 0 ≤ m)
   unfolding judge_fields
-  line_small x k e z w = row_small (row_in x.numbers) (three_fields (eqb x.count 3) x.count (judge_row c n (row_in x.numbers)) refl (scan-accepted Plain (judge_fields c n) x k e z)).1 w
+  line_small (Fields k) f x e z w = row_small (row_in f) (three_fields (eqb k 3) k (judge_row c n (row_in f)) refl (sym e ∙ z)).1 w
+  line_small Spoilt f x e z w = absurd (omega arith)
 
 rows_snoc : (a : Automaton) (n m : ℕ) (rs : List Row) (r : Row) → n + length rs ≡ m → T (fits_rows a n rs) → T (fits_row a m r) → T (fits_rows a n (rs ++ (r ∷ [])))
 rows_snoc a n m [] r e h k = let z : n ≡ m = omega arith in and_i (fits_row a n r) true (rw z k) tt

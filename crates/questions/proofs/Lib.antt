@@ -1,5 +1,4 @@
 -- The theorems that other crates cite.
 pub mod RowShapes
 pub mod QuestionOutcomes
-pub mod QuestionSteps
 pub mod Fits

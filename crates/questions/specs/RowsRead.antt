@@ -1,16 +1,18 @@
--- The reader of a question, one byte at a time (document 02, W5): the state as the code has it, and what the steps give; as many rows are read as lines are accepted.
--- What a question says does not rest on this page.
+-- The reader of a question over a lent buffer, with the shape of the code. Not to be believed.
 -- Assumes nothing.
-use Rattle.std.specs.Prelude.{ℕ, List}
+use Rattle.std.specs.Prelude.{ℕ, List, ◌≡◌}
 use Rattle.refusals.specs.Judged.{Judged}
-use Rattle.fields.specs.declared.Scan.{Scan}
-use Rattle.fields.specs.FileSteps.{Reading, byte_by_byte}
-use Rattle.questions.specs.Question.{Rows, nothing_read, question_rules, counts}
+use Rattle.refusals.specs.Judged.Judged.{accepted, refused}
+use Rattle.fields.specs.Format.{pieces}
+use Rattle.fields.specs.LineFiles.{read_lines}
+use Rattle.questions.specs.declared.Counts.{Counts}
+use Rattle.questions.specs.Question.{Rows, question_rules}
 
--- what is read, where the lent form is t
-abbrev pub reading : Scan → List ℕ → Reading Rows
-reading x t = record { state = record { form = t; count = x.lines }; scan = x }
+-- the rows of a file, written to the form t
+abbrev pub lines_from : Counts → List ℕ → List ℕ → Judged Rows
+lines_from c t s = read_lines (question_rules c) 2 0 (record { form = t; count = 0 }) (pieces s).0 (pieces s).1
 
--- a question to a table with these counts: one step for each byte
-abbrev pub question_by_bytes : ℕ → ℕ → ℕ → List ℕ → Judged Rows
-question_by_bytes registers constants locations s = byte_by_byte (question_rules (counts registers constants locations)) 2 608 nothing_read s
+-- the buffer u holds the rows that are read; after a refusal nothing is said of it
+abbrev pub Holds : Judged Rows → List ℕ → Type 0
+Holds (accepted q) u = u ≡ q.form
+Holds (refused r) u = Unit {0}

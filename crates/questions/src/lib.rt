@@ -1,19 +1,18 @@
-// The reader of questions: the rules for a row, a step for a byte, and the loop over the bytes.
-ghost use mathlib.Core.List.{foldl};
-ghost use Rattle.std.specs.Prelude.{◌≡◌, ◌≤◌, length, get_or};
+// The reader of questions: the rules for a row, and the loop over the lines.
+ghost use Rattle.std.specs.Prelude.{◌≡◌, ◌+◌, ◌≤◌, length, get_or};
 ghost use Rattle.automata.specs.Questions.{row};
 ghost use Rattle.columns.specs.Widths.{largest};
-ghost use Rattle.columns.specs.declared.Sheet.TheVariants.{Plain};
-ghost use Rattle.fields.specs.FileSteps.{begin, judge_scan, ended, step as step_by};
+ghost use Rattle.refusals.specs.Judged.{refusal};
+ghost use Rattle.fields.specs.LineRead.{judge_read};
 ghost use Rattle.forms.specs.QuestionForm.{put};
 ghost use Rattle.forms.specs.Shapes.{use_of};
 ghost use Rattle.questions.specs.QuestionRules.{judge_number, judge_field, judge_row, row_in, judge_fields};
-ghost use Rattle.questions.specs.Question.{question_rules, read_question};
+ghost use Rattle.questions.specs.Question.{read_question};
 ghost use Rattle.questions.specs.QuestionReply.{reply_of, form_of};
-ghost use Rattle.questions.specs.RowsRead.{reading, question_by_bytes};
+ghost use Rattle.questions.specs.RowsRead.{lines_from, Holds};
 
 use columns::Sheet;
-use fields::Scan;
+use fields::Line;
 use forms::{Question, Use};
 use refusals::Refusal;
 
@@ -87,15 +86,14 @@ fn judge_fields(c: Counts, n: u32, count: usize, f: [u64; 6]) -> u32
     2
 }
 
-// The refusal of the line that ends here, or 0; n rows stand before.
-fn judge_line(c: Counts, n: u32, x: Scan) -> u32
-    ensures { result ≡ judge_scan Plain (judge_fields c n) x }
+// The refusal of a line as it is read, with the numbers f, or 0.
+fn judge_line(c: Counts, n: u32, l: Line, f: [u64; 6]) -> u32
+    ensures { result ≡ judge_read (judge_fields c n) l f }
 {
-    if fields::is_whole(Sheet::Plain, x) {
-        let f = x.numbers;
-        return judge_fields(c, n, x.count, f);
+    match l {
+        Line::Fields(count) => judge_fields(c, n, count, f),
+        Line::Spoilt => 2,
     }
-    2
 }
 
 // A line is accepted: it is row n.
@@ -109,56 +107,6 @@ fn accept(n: u32, f: [u64; 6], t: &mut [u32])
     forms::put_question_row(t, n, k, a, b);
 }
 
-// Byte 10: the line is judged, and accepted or turned back.
-fn end_line(c: Counts, x: Scan, t: &mut [u32]) -> Scan
-    requires { x.lines ≤ 1000 }
-    ensures { reading result t.new ≡ ended (question_rules c) (reading x t.old) }
-{
-    let lines = x.lines;
-    let n = judge_line(c, lines, x);
-    let next = fields::with_line(Sheet::Plain, x, n);
-    if n == 0 {
-        let f = x.numbers;
-        accept(lines, f, t);
-        return next;
-    }
-    next
-}
-
-// One byte more of a question; nothing follows a refusal. As many rows are read as lines are accepted; they stand in a lent form, which has nothing else of the file.
-pub fn step(c: Counts, x: Scan, b: u8, t: &mut [u32]) -> Scan
-    requires { x.lines ≤ 1000 }
-    ensures { reading result t.new ≡ step_by (question_rules c) (reading x t.old) b }
-{
-    if x.refusal != 0 {
-        return x;
-    }
-    if b == 10 {
-        return end_line(c, x, t);
-    }
-    fields::with_byte(Sheet::Plain, x, b)
-}
-
-// One step for each byte of the file, in order, up to a refusal.
-fn read_bytes(c: Counts, s: &[u8], t: &mut [u32]) -> Scan
-    requires { length s.now ≤ 608 }
-    ensures { (reading result t.new ≡ foldl (step_by (question_rules c)) (begin (question_rules c) (record { form = t.old; count = 0 })) s.now)
-        × (result.lines ≤ 608) }
-{
-    let mut x = fields::between_lines(Sheet::Plain, 0);
-    // counted down, which makes a shorter loop
-    let n = s.len();
-    let mut left = n;
-    while 0 < left {
-        x = step(c, x, s[n - left], t);
-        if x.refusal != 0 {
-            return x;
-        }
-        left -= 1;
-    }
-    x
-}
-
 #[derive(Drop)]
 pub enum Reply {
     // with the number of rows
@@ -166,7 +114,47 @@ pub enum Reply {
     Refused(Refusal),
 }
 
-// Reads a question to a table with these counts, by one step for each byte; a refusal leaves the rows as they are.
+// The refusal of the line after these.
+fn refused_after(lines: u32, number: u32) -> Reply
+    requires { lines ≤ 1000 }
+    ensures { result ≡ Reply.Refused (refusal number 2 (lines + 1)) }
+{
+    Reply::Refused(Refusal {
+        number: number,
+        file: 2,
+        line: lines + 1,
+    })
+}
+
+// The whole file, line after line.
+fn read_lines(c: Counts, s: &[u8], t: &mut [u32]) -> Reply
+    requires { length s.now ≤ 608 }
+    ensures { (result ≡ reply_of (lines_from c t.old s.now)) × Holds (lines_from c t.old s.now) t.new }
+{
+    let mut lines: u32 = 0;
+    let mut i = 0;
+    while i < s.len() {
+        let end = fields::line_end(s, i);
+        if s.len() <= end {
+            return refused_after(lines, 2);
+        }
+        let mut f = [0u64; 6];
+        let l = fields::read_line(Sheet::Plain, s, i, end, &mut f);
+        let x = judge_line(c, lines, l, f);
+        if x != 0 {
+            return refused_after(lines, x);
+        }
+        accept(lines, f, t);
+        lines += 1;
+        i = end + 1;
+    }
+    if 0 < lines {
+        return Reply::Accepted(lines as usize);
+    }
+    refused_after(lines, 2)
+}
+
+// Reads a question to a table with these counts; a refusal leaves the rows as they are.
 pub fn read_question(
     registers: u32,
     constants: u32,
@@ -175,8 +163,7 @@ pub fn read_question(
     rows: &mut Question,
 ) -> Reply
     ensures { (result ≡ reply_of (read_question registers constants locations s.now))
-        × (rows.new ≡ form_of (read_question registers constants locations s.now) rows.old)
-        × (read_question registers constants locations s.now ≡ question_by_bytes registers constants locations s.now) }
+        × (rows.new ≡ form_of (read_question registers constants locations s.now) rows.old) }
 {
     if 608 < s.len() {
         return Reply::Refused(Refusal {
@@ -191,16 +178,12 @@ pub fn read_question(
         locations: locations,
     };
     let mut form = [0u32; forms::QUESTION_LENGTH];
-    let x = read_bytes(c, s, &mut form);
-    let rows_read = x.lines;
-    let n = fields::at_end(Sheet::Plain, x, 0 < rows_read);
-    if n == 0 {
-        *rows = form;
-        return Reply::Accepted(rows_read as usize);
+    let reply = read_lines(c, s, &mut form);
+    match reply {
+        Reply::Accepted(n) => {
+            *rows = form;
+            Reply::Accepted(n)
+        }
+        Reply::Refused(r) => Reply::Refused(r),
     }
-    Reply::Refused(Refusal {
-        number: n,
-        file: 2,
-        line: rows_read + 1,
-    })
 }

@@ -1,9 +1,11 @@
--- The counters stay small; a number that is no kind; six tests. Assumes nothing.
+-- The counters stay small; a number that is no kind; the six numbers of a row. Assumes nothing.
 use Prim.Native.Nat.{ℕ, zero, suc, ◌+◌, ◌^◌, ◌≤◌, ◌<◌}
 use native.Mathlib.Omega.{arith}
 use mathlib.Core.Bool.{Bool, true, cond, ◌&&◌, and_assoc, and-true}
-use mathlib.Core.List.{List}
+use mathlib.Core.List.{List, [], ◌∷◌}
 use lib.Dec.{eqb}
+use lib.ListN.{length}
+use Rattle.forms.proofs.FormRows.{six}
 use mathlib.Core.Logic.{◌≢◌}
 use mathlib.Core.Path.{◌≡◌, refl}
 use Rattle.reader.specs.TableRead.{Small}
@@ -56,6 +58,17 @@ other (suc (suc (suc (suc (suc (suc (suc (suc (suc k))))))))) a b c d e f g h = 
 pub judge-kind : (p : Progress) (n : ℕ) (f : List ℕ) → cond (expected p (kind_at p (at f 0) 0) n) (judge_values p (kind_at p (at f 0) 0) f) 2 ≡ judge_line p n f
 unfolding judge_line judge_values kind_at
 judge-kind p n f = refl
+
+-- a row has six numbers
+pub six_numbers : (f : List ℕ) → length f ≡ 6 → six f ≡ f
+six_numbers [] h = absurd (omega arith)
+six_numbers (a ∷ []) h = absurd (omega arith)
+six_numbers (a ∷ b ∷ []) h = absurd (omega arith)
+six_numbers (a ∷ b ∷ c ∷ []) h = absurd (omega arith)
+six_numbers (a ∷ b ∷ c ∷ d ∷ []) h = absurd (omega arith)
+six_numbers (a ∷ b ∷ c ∷ d ∷ e ∷ []) h = absurd (omega arith)
+six_numbers (a ∷ b ∷ c ∷ d ∷ e ∷ g ∷ []) h = refl
+six_numbers (a ∷ b ∷ c ∷ d ∷ e ∷ g ∷ k ∷ f) h = absurd (omega arith)
 
 pub all_six : (a b c d e f : Bool) → (a && b && c && d && e && f) ≡ (a && (b && (c && (d && (e && (f && true))))))
 all_six a b c d e f = simp (and_assoc, and-true)

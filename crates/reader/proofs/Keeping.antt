@@ -11,14 +11,14 @@ use borrow.Author.Tests.{leb-true, leb-false, eqb-true, eqb-false}
 use native.Mathlib.Omega.{arith}
 use lib.Dec.{T, leb, eqb}
 use lib.ListN.{length, replicate}
-use Rattle.lists.proofs.Arrays.{zeros_at, six}
+use Rattle.lists.proofs.Arrays.{zeros_at}
 use Rattle.columns.specs.Widths.{largest}
 use Rattle.graphs.proofs.Lists.{get_d_le}
 use Rattle.reader.specs.declared.Progress.{Progress}
 use Rattle.forms.specs.TableForm.{form_length, counts_row, constant_rows, action_rows, arity_row, start_row, starting_rows, transition_row, guard_rows, assignment_rows, register_row, cell, put}
 use Rattle.reader.specs.TableRules.{at, kind_at, judge_line, advance, further, placed}
 use Rattle.reader.proofs.Accepted.{Inside, line-issued, Stands, line1, line2, line3, line4, line5, line6, line7, line8}
-use Rattle.forms.proofs.FormRows.{InForm, in_form, row_at, length-put, kept, written, low-put}
+use Rattle.forms.proofs.FormRows.{InForm, in_form, row_at, six, length-put, kept, written, low-put}
 use Rattle.reader.proofs.Shape.{ConditionRow, HeadRow, AssignmentRow, Guarded, TransitionRows}
 
 -- The counters keep to the counts of line 1, and these to their limits

@@ -45,8 +45,8 @@ completed p c =
     (leb-true 4 p.stage h.0, leb-true p.transitions p.transition h.1)
 
 -- a form with no lines
-pub blank-sound : (p : Progress) → Counted p → p.ids ≡ 0 → p.acts ≡ 0 → p.stage ≤ 3 → Sound p blank_form
-blank-sound p n a b h =
+pub blank_sound : (p : Progress) → Counted p → p.ids ≡ 0 → p.acts ≡ 0 → p.stage ≤ 3 → Sound p blank_form
+blank_sound p n a b h =
     let x = n.unread (omega arith) in
     let y = n.early (omega arith) in
     record {
@@ -103,7 +103,7 @@ legal-end p t s h c =
 pub legal : (s t : List ℕ) → read_table s ≡ accepted t → Legal t
 legal s t e =
     let h = form-keeps (λ p u. Sound p u × HeadedBy p u) (λ p f u l k g. (sound-step p f u g.0 l k, headed_step p f u g.0.size g.1 k)) 1 40000 at_start s t
-    (blank-sound at_start (omega arith) refl refl (omega arith), record { head1 = refl; head2 = refl; head3 = refl; head4 = refl; head5 = refl; passed = λ z. absurd (omega arith) }) e in
+    (blank_sound at_start (omega arith) refl refl (omega arith), record { head1 = refl; head2 = refl; head3 = refl; head4 = refl; head5 = refl; passed = λ z. absurd (omega arith) }) e in
     legal-end h.0 t h.1.0 h.1.1 h.2
 
 -- a target keeps the counts of its table
@@ -144,7 +144,7 @@ target-end r c l p t s x y z e =
 pub target-legal : (r c l : ℕ) (s u : List ℕ) → r ≤ 5 → c ≤ 2 → l ≤ 16 → read_form 2 309 (before_target r c l) s ≡ accepted u → LegalTarget r c l u
 target-legal r c l s u x y z e =
     let h = form-keeps (Aimed r c l) (aimed_step r c l) 2 309 (before_target r c l) s u
-    (record { sound = blank-sound (before_target r c l) (omega arith) refl refl (omega arith); same1 = refl; same2 = refl; same3 = refl; beyond = omega arith }) e in
+    (record { sound = blank_sound (before_target r c l) (omega arith) refl refl (omega arith); same1 = refl; same2 = refl; same3 = refl; beyond = omega arith }) e in
     let a = h.1 in
     target-end r c l h.0 u a.sound a.same1 a.same2 a.same3 h.2
 

@@ -1,30 +1,19 @@
--- The reader of a table or a target, one byte at a time (document 02, W5): the state as the code has it, and what the steps give. What a table or a target says does not
--- rest on this page.
+-- The reader of a table between two lines, with the shape of the code. Not to be believed.
 -- Assumes nothing.
 use Rattle.std.specs.Prelude.{ℕ, ◌≤◌, List}
 use Rattle.refusals.specs.Judged.{Judged, ◌then◌}
 use Rattle.refusals.specs.Judged.Judged.{accepted}
-use Rattle.fields.specs.FileSteps.{Reading, byte_by_byte}
-use Rattle.forms.specs.TableForm.{counts_row, cell}
+use Rattle.fields.specs.Format.{pieces}
+use Rattle.fields.specs.LineFiles.{read_lines}
 use Rattle.reader.specs.declared.Progress.{Progress}
-use Rattle.reader.specs.declared.Reader.{Reader}
-use Rattle.reader.specs.TableRules.{at_start, before_target}
-use Rattle.reader.specs.Table.{Read, table_rules, blank_form}
+use Rattle.reader.specs.Table.{Read, table_rules}
 
--- what is read, where the lent form is t
-abbrev pub reading : Reader → List ℕ → Reading Read
-reading r t = record { state = record { progress = r.progress; form = t }; scan = r.scan }
+abbrev pub form_in : Judged Read → Judged (List ℕ)
+form_in o = o then (λ x. accepted x.form)
 
--- the form of a file of at most limit bytes, its first line after p: one step for each byte
-abbrev pub form_by_bytes : (file limit : ℕ) → Progress → List ℕ → Judged (List ℕ)
-form_by_bytes file limit p s = byte_by_byte table_rules file limit (record { progress = p; form = blank_form }) s then (λ x. accepted x.form)
-
-abbrev pub table_by_bytes : List ℕ → Judged (List ℕ)
-table_by_bytes s = form_by_bytes 1 40000 at_start s
-
--- of a target of the table with the form t
-abbrev pub target_by_bytes : List ℕ → List ℕ → Judged (List ℕ)
-target_by_bytes t s = form_by_bytes 2 309 (before_target (cell t counts_row 1) (cell t counts_row 2) (cell t counts_row 3)) s
+-- the form t with the lines of a file, the first after p
+abbrev pub lines_from : ℕ → Progress → List ℕ → List ℕ → Judged (List ℕ)
+lines_from file p t s = form_in (read_lines table_rules file 0 (record { progress = p; form = t }) (pieces s).0 (pieces s).1)
 
 -- the counters are at most n, as after n lines
 pub record Small (p : Progress) (n : ℕ) : Type 0 where

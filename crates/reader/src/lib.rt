@@ -1,18 +1,17 @@
-// The reader of tables and targets: the rules for their lines, a step for a byte, and the loop over the bytes.
+// The reader of tables and targets: the rules for their lines, and the loop over them.
 ghost use Rattle.std.specs.Prelude.{◌≡◌, true, cond, ◌+◌, ◌≤◌, T, leb, length};
-ghost use mathlib.Core.List.{foldl};
 ghost use Rattle.columns.specs.Widths.{largest};
 ghost use Rattle.graphs.specs.Lists.{all_of};
 ghost use Rattle.automata.specs.WellFormed.{inside};
-ghost use Rattle.columns.specs.declared.Sheet.TheVariants.{Table as OnTable};
-ghost use Rattle.fields.specs.FileSteps.{begin, judge_scan, ended, step as step_by};
+ghost use Rattle.refusals.specs.Judged.{refusal};
+ghost use Rattle.fields.specs.LineRead.{judge_read};
 ghost use Rattle.reader.specs.TableRules.{at, kind_of, has_term, kind_at, expected, fit_from, in_range, judge_values, judge_line, advance, further, placed, complete};
-ghost use Rattle.reader.specs.Table.{table_rules, blank_form, read_form, read_table, read_target};
+ghost use Rattle.reader.specs.Table.{blank_form, read_form, read_table, read_target};
 ghost use Rattle.reader.specs.TableReply.{Filled};
-ghost use Rattle.reader.specs.TableRead.{reading, form_by_bytes, table_by_bytes, target_by_bytes, Small};
+ghost use Rattle.reader.specs.TableRead.{lines_from, Small};
 
 use columns::Sheet;
-use fields::Scan;
+use fields::Line;
 use forms::Form;
 use refusals::Refusal;
 
@@ -251,16 +250,15 @@ fn judge_fields(p: Progress, n: usize, f: [u64; 6]) -> u32
     2
 }
 
-// The refusal of the line that ends here, or 0.
-fn judge_line(p: Progress, x: Scan) -> u32
+// The refusal of a line as it is read, with the numbers f, or 0.
+fn judge_line(p: Progress, l: Line, f: [u64; 6]) -> u32
     requires { Small p 50000 }
-    ensures { result ≡ judge_scan OnTable (judge_line p) x }
+    ensures { result ≡ judge_read (judge_line p) l f }
 {
-    if fields::is_whole(Sheet::Table, x) {
-        let f = x.numbers;
-        return judge_fields(p, x.count, f);
+    match l {
+        Line::Fields(n) => judge_fields(p, n, f),
+        Line::Spoilt => 2,
     }
-    2
 }
 
 fn pick(c: bool, a: u32, b: u32) -> u32
@@ -322,81 +320,6 @@ fn accept(p: Progress, f: [u32; 6], t: &mut [u32]) -> Progress
     advanced(p, k, f, params)
 }
 
-// What is read between two bytes: how far the table, and how far its line. The rows of accepted lines stand in a lent form, which has nothing else of the file.
-#[derive(Drop)]
-pub struct Reader {
-    pub progress: Progress,
-    pub scan: Scan,
-}
-
-// Byte 10: the line is judged, and accepted or turned back.
-fn end_line(r: Reader, t: &mut [u32]) -> Reader
-    requires { Small r.progress 50000 × (r.scan.lines ≤ 50000) }
-    ensures { reading result t.new ≡ ended table_rules (reading r t.old) }
-{
-    let p = r.progress;
-    let x = r.scan;
-    let n = judge_line(p, x);
-    let next = fields::with_line(Sheet::Table, x, n);
-    if n == 0 {
-        let f = x.numbers;
-        let row = row_of(f);
-        let q = accept(p, row, t);
-        return Reader {
-            progress: q,
-            scan: next,
-        };
-    }
-    Reader {
-        progress: p,
-        scan: next,
-    }
-}
-
-// One byte more of a table or a target; nothing follows a refusal.
-pub fn step(r: Reader, b: u8, t: &mut [u32]) -> Reader
-    requires { Small r.progress 50000 × (r.scan.lines ≤ 50000) }
-    ensures { reading result t.new ≡ step_by table_rules (reading r t.old) b }
-{
-    let x = r.scan;
-    if x.refusal != 0 {
-        return r;
-    }
-    if b == 10 {
-        return end_line(r, t);
-    }
-    let p = r.progress;
-    let next = fields::with_byte(Sheet::Table, x, b);
-    Reader {
-        progress: p,
-        scan: next,
-    }
-}
-
-// One step for each byte of the file, in order, up to a refusal.
-fn read_bytes(p: Progress, s: &[u8], t: &mut [u32]) -> Reader
-    requires { (length s.now ≤ 40000) × Small p 0 }
-    ensures { (reading result t.new ≡ foldl (step_by table_rules) (begin table_rules (record { progress = p; form = t.old })) s.now)
-        × (result.scan.lines ≤ 40000) }
-{
-    let scan = fields::between_lines(Sheet::Table, 0);
-    let mut r = Reader {
-        progress: p,
-        scan: scan,
-    };
-    // counted down, which makes a shorter loop
-    let n = s.len();
-    let mut left = n;
-    while 0 < left {
-        r = step(r, s[n - left], t);
-        if r.scan.refusal != 0 {
-            return r;
-        }
-        left -= 1;
-    }
-    r
-}
-
 #[derive(Drop)]
 pub enum Reply {
     Accepted,
@@ -410,11 +333,52 @@ fn is_complete(p: Progress) -> bool
     (4 <= p.stage) & (p.transitions <= p.transition)
 }
 
+// The refusal of the line after these.
+fn refused_after(lines: u32, number: u32, file: u32) -> Reply
+    requires { lines ≤ 50000 }
+    ensures { result ≡ Reply.Refused (refusal number file (lines + 1)) }
+{
+    Reply::Refused(Refusal {
+        number: number,
+        file: file,
+        line: lines + 1,
+    })
+}
+
+// The whole file, line after line.
+fn read_lines(from: Progress, file: u32, s: &[u8], t: &mut [u32]) -> Reply
+    requires { (length s.now ≤ 40000) × Small from 0 }
+    ensures { Filled (lines_from file from t.old s.now) result t.new }
+{
+    let mut p = from;
+    let mut lines: u32 = 0;
+    let mut i = 0;
+    while i < s.len() {
+        let end = fields::line_end(s, i);
+        if s.len() <= end {
+            return refused_after(lines, 2, file);
+        }
+        let mut f = [0u64; 6];
+        let l = fields::read_line(Sheet::Table, s, i, end, &mut f);
+        let n = judge_line(p, l, f);
+        if n != 0 {
+            return refused_after(lines, n, file);
+        }
+        let row = row_of(f);
+        p = accept(p, row, t);
+        lines += 1;
+        i = end + 1;
+    }
+    if is_complete(p) {
+        return Reply::Accepted;
+    }
+    refused_after(lines, 2, file)
+}
+
 // Reads the lines of a file to the form t, which has none.
 fn read_file(p: Progress, file: u32, limit: usize, s: &[u8], t: &mut Form) -> Reply
     requires { (limit ≤ 40000) × Small p 0 × (t.old ≡ blank_form) }
-    ensures { Filled (read_form file limit p s.now) result t.new
-        × (read_form file limit p s.now ≡ form_by_bytes file limit p s.now) }
+    ensures { Filled (read_form file limit p s.now) result t.new }
 {
     if limit < s.len() {
         return Reply::Refused(Refusal {
@@ -423,24 +387,13 @@ fn read_file(p: Progress, file: u32, limit: usize, s: &[u8], t: &mut Form) -> Re
             line: 0,
         });
     }
-    let r = read_bytes(p, s, t);
-    let x = r.scan;
-    let n = fields::at_end(Sheet::Table, x, is_complete(r.progress));
-    if n == 0 {
-        return Reply::Accepted;
-    }
-    Reply::Refused(Refusal {
-        number: n,
-        file: file,
-        line: x.lines + 1,
-    })
+    read_lines(p, file, s, t)
 }
 
-// Reads a table to the form t, which has no lines, by one step for each byte.
+// Reads a table to the form t, which has no lines.
 pub fn read_table(s: &[u8], t: &mut Form) -> Reply
     requires { t.old ≡ blank_form }
-    ensures { Filled (read_table s.now) result t.new
-        × (read_table s.now ≡ table_by_bytes s.now) }
+    ensures { Filled (read_table s.now) result t.new }
 {
     let p = Progress {
         registers: 0,
@@ -460,11 +413,10 @@ pub fn read_table(s: &[u8], t: &mut Form) -> Reply
     read_file(p, 1, 40000, s, t)
 }
 
-// Reads a target of the table with the form `table` to the form t, which has no lines, by one step for each byte.
+// Reads a target of the table with the form `table` to the form t, which has no lines.
 pub fn read_target(table: &[u32], s: &[u8], t: &mut Form) -> Reply
     requires { t.old ≡ blank_form }
-    ensures { Filled (read_target table.now s.now) result t.new
-        × (read_target table.now s.now ≡ target_by_bytes table.now s.now) }
+    ensures { Filled (read_target table.now s.now) result t.new }
 {
     let p = Progress {
         registers: forms::cell(table, forms::COUNTS_ROW, forms::REGISTERS),

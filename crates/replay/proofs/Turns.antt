@@ -21,12 +21,12 @@ abbrev pub entries : List ℕ → ℕ → ℕ → List ℕ
 entries xs j zero = []
 entries xs j (suc k) = get_or xs j 0 ∷ entries xs (suc j) k
 
-pub part_is : (k j : ℕ) (xs : List ℕ) → j + k ≤ length xs → take k (drop j xs) ≡ entries xs j k
-part_is zero j xs h = refl
-part_is (suc k) j xs h = ap (take (suc k)) (drop-cons xs j 0 (omega arith)) ∙ ap (λ l. get_or xs j 0 ∷ l) (part_is k (suc j) xs (omega arith))
+pub part-is : (k j : ℕ) (xs : List ℕ) → j + k ≤ length xs → take k (drop j xs) ≡ entries xs j k
+part-is zero j xs h = refl
+part-is (suc k) j xs h = ap (take (suc k)) (drop-cons xs j 0 (omega arith)) ∙ ap (λ l. get_or xs j 0 ∷ l) (part-is k (suc j) xs (omega arith))
 
 pub whole_is : (k : ℕ) (xs : List ℕ) → length xs ≡ k → entries xs 0 k ≡ xs
-whole_is k xs h = sym (part_is k 0 xs (omega arith)) ∙ take_all k xs (omega arith)
+whole_is k xs h = sym (part-is k 0 xs (omega arith)) ∙ take_all k xs (omega arith)
 
 -- the slots behind the first i are tested one by one
 pub rest-is : (n i : ℕ) (xs : List ℕ) → length xs - i ≡ n → all_from (λ j. eqb (get_or xs j 0) 0) i n ≡ rest_zero i xs

@@ -18,7 +18,7 @@ use Rattle.reader.specs.Table.{Read, table_rules, blank_form, read_form, read_ta
 use Rattle.reader.proofs.Accepted.{Stands, line1, line2, line3, line4, line5, line6, line7, line8}
 use Rattle.reader.proofs.Shape.{Legal, LegalTarget}
 use Rattle.reader.proofs.Keeping.{Sound, HeadedBy, headed_step}
-use Rattle.reader.proofs.LegalForms.{completed, blank-sound, legal-end, legal, target-legal}
+use Rattle.reader.proofs.LegalForms.{completed, blank_sound, legal-end, legal, target-legal}
 use Rattle.reader.proofs.Present.{up_from-all}
 use Rattle.forms.proofs.Encoding.{lines-le}
 use Rattle.columns.specs.declared.Sheet.TheVariants.{Table}
@@ -26,7 +26,7 @@ use Rattle.columns.specs.Widths.{largest}
 use Rattle.columns.specs.Columns.{file_bytes}
 use Rattle.writing.specs.Lines.{table_lines, target_lines, table_bytes, target_bytes, issued}
 use Rattle.writing.proofs.Reading.{Taken, file_written}
-use Rattle.writing.proofs.FormFilling.{line_at, lines_rest, Marked, MarkedBy, Filled, blank-filled, lines-filled}
+use Rattle.writing.proofs.FormFilling.{line_at, lines_rest, Marked, MarkedBy, Filled, blank_filled, lines-filled}
 use Rattle.writing.proofs.Formed.{form-lines, target-lines}
 
 -- before the first line
@@ -64,9 +64,9 @@ table-end q t rs s h g c =
 pub lines-table : (rs : List (List ℕ)) (u : Read) → Taken table_rules rs (begun at_start) u → (rs ≡ table_lines (automaton_of u.form)) × (length rs ≤ row_count)
 lines-table rs u taken =
     let ((s, h, g), c) = lines-filled HeadedBy (λ p f t z st q. headed_step p f t z q st) rs (begun at_start) u taken (
-      blank-sound at_start (omega arith) refl refl (omega arith),
+      blank_sound at_start (omega arith) refl refl (omega arith),
       record { head1 = refl; head2 = refl; head3 = refl; head4 = refl; head5 = refl; passed = λ z. absurd (omega arith) },
-      blank-filled at_start (omega arith) (λ x. omega arith),
+      blank_filled at_start (omega arith) (λ x. omega arith),
     ) in
     let o = s.counted in (
       table-end u.progress u.form rs s h g c,
@@ -121,9 +121,9 @@ pub lines-target : (r c l : ℕ) (rs : List (List ℕ)) (u : Read) → r ≤ 5 �
     → rs ≡ target_lines (target_of u.form)
 lines-target r c l rs u x y z taken n =
     let ((s, h, g), d) = lines-filled BareBy bare_step rs (begun (before_target r c l)) u taken (
-      blank-sound (before_target r c l) (omega arith) refl refl (omega arith),
+      blank_sound (before_target r c l) (omega arith) refl refl (omega arith),
       record { ids0 = refl; actions0 = refl; transitions0 = refl; beyond = omega arith },
-      blank-filled (before_target r c l) (omega arith) (λ x. omega arith),
+      blank_filled (before_target r c l) (omega arith) (λ x. omega arith),
     ) in
     target-end r c l u.progress u.form rs n s h g d
 

@@ -13,7 +13,7 @@ use lib.ListN.{length, replicate, replicate-append-replicate}
 use Rattle.fields.specs.Format.{glyph_of, on_digit, digits_from, on_field, field}
 use Rattle.fields.specs.declared.Glyph.{Glyph}
 use Rattle.fields.specs.declared.Glyph.TheVariants.{Blank, Digit, Other}
-use Rattle.fields.proofs.Digits.{digit_low}
+use Rattle.fields.proofs.LineParts.{digit_low}
 use Rattle.fields.proofs.Digits.{no_number_lem}
 use Rattle.columns.specs.Columns.{column}
 use Rattle.writing.proofs.ColumnDigits.{digits, by_tens, column_tens}

@@ -17,8 +17,7 @@ use Rattle.reader.specs.declared.Progress.{Progress}
 use Rattle.reader.specs.TableRules.{at, kind_of, numbers_in, kind_at, judge_line, advance, further, placed, complete}
 use Rattle.reader.specs.Table.{Read, table_rules, blank_form}
 use Rattle.reader.proofs.Accepted.{Stands, stands, line1, line2, line3, line4, line5, line6, line7, line8, Passed, line-passed}
-use Rattle.forms.proofs.FormRows.{InForm, row_at, cell-without, kept, written}
-use Rattle.lists.proofs.Arrays.{six}
+use Rattle.forms.proofs.FormRows.{InForm, row_at, six, cell-without, kept, written}
 use Rattle.reader.proofs.Keeping.{line-held, Counted, Sound, sound-step}
 use Rattle.columns.specs.declared.Sheet.TheVariants.{Table}
 use Rattle.reader.proofs.Present.{holds-none}
@@ -171,8 +170,8 @@ pub record Filled (p : Progress) (t : List ℕ) (done : List (List ℕ)) : Type 
   pub bounds : Used p used
   pub marks : (x : ℕ) → MarkedBy p x (cell t x 0)
 
-pub blank-filled : (p : Progress) → Used p 0 → ((x : ℕ) → MarkedBy p x 0) → Filled p blank_form []
-blank-filled p u m =
+pub blank_filled : (p : Progress) → Used p 0 → ((x : ℕ) → MarkedBy p x 0) → Filled p blank_form []
+blank_filled p u m =
     record {
       used = 0;
       lines = refl;

@@ -1,14 +1,17 @@
 -- `questions::judge_line` meets its contract. Assumes nothing.
 use borrow.Author.Rules.{rules}
-use mathlib.Core.Path.{◌∙◌, sym}
+use mathlib.Core.Path.{sym, ap, ◌∙◌}
+use Rattle.fields.specs.LineRead.{judge_read}
+use Rattle.fields.specs.declared.Line.{Line}
+use Rattle.questions.specs.QuestionRules.{judge_fields}
 use Rattle.questions.proofs.judge_line.Statement.{statement}
 use Rattle.questions.proofs.judge_line.Tie as tie
 
+returns : tie.Need-returns
+returns c = let a = c.before.before.before.before.args in c.judge-fields.ensures ∙ ap (λ (l : Line). judge_read (judge_fields a.c a.n) l a.f) (sym c.before.before.l.given.1)
+
+returns-2 : tie.Need-returns-2
+returns-2 c = let a = c.before.before.args in ap (λ (l : Line). judge_read (judge_fields a.c a.n) l a.f) (sym c.enum_told.given.1)
+
 pub judge_line_spec : {M : Type 1} → statement M
-judge_line_spec =
-    tie.close
-    (tie.spec
-    (λ c κs. search rules)
-    (λ c κs. search rules)
-    (λ c. simp (sym c.before.before.before.is_whole.ensures ∙ c.before.before.if1.true) c.judge-fields.ensures)
-    (λ c. simp (sym c.before.is_whole.ensures ∙ c.if1.false)))
+judge_line_spec = tie.close (tie.spec (λ c. search rules) (λ c κs. search rules) (λ c. search rules) returns returns-2)

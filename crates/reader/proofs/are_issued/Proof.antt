@@ -8,8 +8,7 @@ use lib.Dec.{leb}
 use lib.ListN.{get_or}
 use Rattle.columns.specs.Widths.{largest}
 use Rattle.graphs.specs.Lists.{all_of}
-use Rattle.lists.proofs.Arrays.{six_numbers}
-use Rattle.reader.proofs.Bounds.{all_six}
+use Rattle.reader.proofs.Bounds.{six_numbers, all_six}
 use Rattle.reader.proofs.are_issued.Statement.{statement}
 use Rattle.reader.proofs.are_issued.Tie as tie
 

@@ -1,9 +1,12 @@
 -- `reader::row_of` meets its contract. Assumes nothing.
+use Prim.Native.Nat.{◌≤◌}
 use borrow.Author.Rules.{rules}
+use mathlib.Core.Path.{◌∙◌}
 use native.Mathlib.Omega.{arith}
+use lib.ListN.{get_or}
 use Rattle.columns.specs.Widths.{largest}
-use Rattle.lists.proofs.Arrays.{six_numbers}
 use Rattle.graphs.proofs.Lists.{get_d_le}
+use Rattle.reader.proofs.Bounds.{six_numbers}
 use Rattle.reader.proofs.row_of.Statement.{statement}
 use Rattle.reader.proofs.row_of.Tie as tie
 

@@ -2,7 +2,7 @@
 -- Assumes nothing.
 use mathlib.Core.Path.{sym}
 use native.Mathlib.Omega.{arith}
-use Rattle.replay.proofs.Turns.{part_is}
+use Rattle.replay.proofs.Turns.{part-is}
 use borrow.Author.Rules.{rules}
 use Rattle.replay.proofs.start_of.Statement.{statement}
 use Rattle.replay.proofs.start_of.Tie as tie
@@ -16,4 +16,4 @@ start_of_spec =
     (λ c. search rules)
     (λ c. search rules)
     (λ c. search rules)
-    (λ c. sym (part_is 5 0 c.before.before.before.before.before.args.run.now (omega arith))))
+    (λ c. sym (part-is 5 0 c.before.before.before.before.before.args.run.now (omega arith))))

@@ -3,7 +3,7 @@
 use mathlib.Core.Path.{refl, sym}
 use native.Mathlib.Omega.{arith}
 use Rattle.replay.specs.RunForm.{step_from}
-use Rattle.replay.proofs.Turns.{part_is}
+use Rattle.replay.proofs.Turns.{part-is}
 use Rattle.replay.proofs.Flat.{step-path}
 use borrow.Author.Rules.{rules}
 use Rattle.replay.proofs.step_of.Statement.{statement}
@@ -12,7 +12,7 @@ use Rattle.replay.proofs.step_of.Tie as tie
 returns : tie.Need-returns
 returns c =
     let xs = c.before.before.before.before.before.before.before.before.before.args.run.now in
-    sym (step-path (step_from xs) _ refl (part_is 3 1 xs (omega arith)) (part_is 5 4 xs (omega arith)))
+    sym (step-path (step_from xs) _ refl (part-is 3 1 xs (omega arith)) (part-is 5 4 xs (omega arith)))
 
 pub step_of_spec : {M : Type 1} → statement M
 step_of_spec =

@@ -1,4 +1,4 @@
--- `test_reading::main` is safe and ends: 360 cases.
+-- `test_reading::main` is safe and ends: 334 cases.
 -- Assumes nothing.
 use Prim.Native.Nat.{◌≤◌, ◌-◌}
 use borrow.Author.Rules.{rules}
@@ -6,10 +6,10 @@ use Rattle.test_reading.proofs.main.Statement.{statement}
 use Rattle.test_reading.proofs.main.Tie as tie
 
 abbrev invariant-loop : tie.invariant-loop
-invariant-loop i₀ i = i ≤ 361
+invariant-loop i₀ i = i ≤ 335
 
 abbrev decreases-loop : tie.decreases-loop
-decreases-loop i₀ i = 361 - i
+decreases-loop i₀ i = 335 - i
 
 pub main_spec : {M : Type 1} → statement M
 main_spec =

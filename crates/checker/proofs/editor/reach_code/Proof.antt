@@ -16,7 +16,7 @@ opened c = let o = c.before.before.open-table.ensures in told_opened _ _ _ _ o.0
 
 -- and the target
 aimed : (c : tie.After-enum-told2) → Targeted c.before.before.before.before.before.before.before.before.before.before.before.before.args.table.now c.before.before.before.before.before.before.before.before.before.before.before.before.args.target.now c.before.before.before.before.before.before.before.open-table.new.1.0 c.before.before.read-target.new.1.1.0
-aimed c = let q = c.before.before.read-target.ensures.0 in told-target _ _ _ (opened c.before.before.before.before.before).outcome _ _ q.0 q.1 c.enum-told2.given.1
+aimed c = let q = c.before.before.read-target.ensures in told-target _ _ _ (opened c.before.before.before.before.before).outcome _ _ q.0 q.1 c.enum-told2.given.1
 
 add-result : tie.Need-overflow-add-result
 add-result c =
@@ -27,7 +27,7 @@ add-result c =
 add-result-2 : tie.Need-overflow-add-result-2
 add-result-2 c =
     let e = c.before.before.before.before.before.before.before.before.before.before.before.before.before.before.args in
-    omega (arith, target_files-low e.table.now e.target.now _ (told-target-refused e.table.now e.target.now _ (opened c.before.before.before.before.before.before.before).outcome _ _ c.before.before.before.before.read-target.ensures.0.0 c.before.before.reply.given.1))
+    omega (arith, target_files-low e.table.now e.target.now _ (told-target-refused e.table.now e.target.now _ (opened c.before.before.before.before.before.before.before).outcome _ _ c.before.before.before.before.read-target.ensures.0 c.before.before.reply.given.1))
 
 slice-aggregate-read-target : tie.Need-slice-aggregate-read-target
 slice-aggregate-read-target c = sym (opened c.before).readable.long
@@ -53,7 +53,7 @@ returns c =
 returns-2 : tie.Need-returns-2
 returns-2 c =
     let e = c.before.before.before.before.before.before.before.before.before.before.before.before.before.before.args in
-    refused_code e.table.now e.target.now _ (told-target-refused e.table.now e.target.now _ (opened c.before.before.before.before.before.before.before).outcome _ _ c.before.before.before.before.read-target.ensures.0.0 c.before.before.reply.given.1)
+    refused_code e.table.now e.target.now _ (told-target-refused e.table.now e.target.now _ (opened c.before.before.before.before.before.before.before).outcome _ _ c.before.before.before.before.read-target.ensures.0 c.before.before.reply.given.1)
 
 returns-3 : tie.Need-returns-3
 returns-3 c =

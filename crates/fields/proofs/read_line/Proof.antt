@@ -1,0 +1,103 @@
+-- `fields::read_line` meets its contract. Assumes nothing.
+use Prim.Native.Nat.{◌-◌}
+use mathlib.Core.Path.{◌≡◌, sym, ap, ◌∙◌}
+use native.Mathlib.Omega.{arith}
+use borrow.Author.Rules.{rules}
+use lib.ListN.{length, get_or, length-set}
+use Rattle.lists.proofs.Arrays.{padded-none}
+use Rattle.columns.proofs.Columns.{width_is}
+use Rattle.fields.specs.Format.{field}
+use Rattle.fields.proofs.FieldsTaken.{value_none, value-some, read_none, read_some, Taken, taken-first, taken-end, taken_full, taken-short, taken_missing, taken_next}
+use Rattle.fields.proofs.read_line.Statement.{statement}
+use Rattle.fields.proofs.read_line.Tie as tie
+
+abbrev invariant-loop : tie.invariant-loop
+invariant-loop sheet s from end row₀ at₀ count₀ row at count = Taken sheet s from end row at count × (length row ≡ 6)
+
+abbrev decreases-loop : tie.decreases-loop
+decreases-loop sheet s from end row₀ at₀ count₀ row at count = end - at
+
+loop-holds : tie.Need-loop-init invariant-loop decreases-loop
+loop-holds c =
+    let e = c.before in
+    (taken-first e.args.sheet e.args.s.now e.args.from e.args.end e.requires.1 e.args.row.now e.requires.0 (e.requires.2 ∙ sym (padded-none 6)), ap (λ l. length l) e.requires.2)
+
+returns : tie.Need-returns invariant-loop decreases-loop
+returns c =
+    let e = c.before.before.before.before in
+    let v = c.before.before.loop in
+    read_none _ v.row (taken_full e.args.sheet e.args.s.now e.args.from e.args.end e.requires.1 v.row v.at v.count v.invariant.0 c.before.loop-test.true c.if1.true)
+
+returns-2 : tie.Need-returns-2 invariant-loop decreases-loop
+returns-2 c =
+    let e = c.before.before.before.before.before.before.before in
+    let v = c.before.before.before.before.before.loop in
+    read_none _ v.row
+    (taken-short e.args.sheet e.args.s.now e.args.from e.args.end e.requires.1 v.row v.at v.count v.invariant.0 c.before.before.before.before.loop-test.true
+    c.before.before.before.if1.false c.before.width.result c.before.width.ensures (omega (arith, c.if2.true)))
+
+field-requires : tie.Need-field-requires invariant-loop decreases-loop
+field-requires c κs =
+    let w = c.before.width in
+    let v = c.before.before.before.before.before.loop in
+    let e = c.before.before.before.before.before.before.before in
+    (omega arith, omega (arith, c.if2.false, v.invariant.0.within, e.requires.1), omega (arith, w.ensures, width_is e.args.sheet (get_or v.row 0 0) v.count))
+
+returns-3 : tie.Need-returns-3 invariant-loop decreases-loop
+returns-3 c =
+    let e = c.before.before.before.before.before.before.before.before.before.before in
+    let v = c.before.before.before.before.before.before.before.before.loop in
+    let w = c.before.before.before.before.width in
+    read_none _ v.row
+    (taken_missing e.args.sheet e.args.s.now e.args.from e.args.end e.requires.1 v.row v.at v.count v.invariant.0 c.before.before.before.before.before.before.before.loop-test.true
+    c.before.before.before.before.before.before.if1.false w.result w.ensures (omega (arith, c.before.before.before.if2.false))
+    (value_none _ (sym c.enum_told.given.1 ∙ c.before.before.field.ensures)))
+
+loop-less : tie.Need-loop-smaller invariant-loop decreases-loop
+loop-less c =
+    let w = c.before.before.before.before.before.width in
+    let v = c.before.before.before.before.before.before.before.before.before.loop in
+    let e = c.before.before.before.before.before.before.before.before.before.before.before in
+    omega (arith, c.before.before.before.before.if2.false, w.ensures, width_is e.args.sheet (get_or v.row 0 0) v.count)
+
+loop-again : tie.Need-loop-preserved invariant-loop decreases-loop
+loop-again c =
+    let e = c.before.before.before.before.before.before.before.before.before.before.before in
+    let v = c.before.before.before.before.before.before.before.before.before.loop in
+    let w = c.before.before.before.before.before.width in (
+      taken_next e.args.sheet e.args.s.now e.args.from e.args.end e.requires.1 v.row v.at v.count v.invariant.0 c.before.before.before.before.before.before.before.before.loop-test.true
+          c.before.before.before.before.before.before.before.if1.false w.result w.ensures (omega (arith, c.before.before.before.before.if2.false, v.invariant.0.within)) _
+          (value-some _ _ (sym c.before.v.given.1 ∙ c.before.before.before.field.ensures)),
+      simp length-set v.invariant.1,
+    )
+
+returns-4 : tie.Need-returns-4 invariant-loop decreases-loop
+returns-4 c =
+    let e = c.before.before.before in
+    let v = c.before.loop in
+    let (o, count, row) = taken-end e.args.sheet e.args.s.now e.args.from e.args.end e.requires.1 v.row v.at v.count v.invariant.0 c.loop-test.false in
+    read_some _ v.row v.invariant.0.numbers v.count o count row
+
+pub read_line_spec : {M : Type 1} → statement M
+read_line_spec =
+    tie.close
+    (tie.spec
+    invariant-loop
+    decreases-loop
+    loop-holds
+    returns
+    (λ c. omega arith)
+    (λ c κs. search rules)
+    (λ c. search rules)
+    returns-2
+    (λ c. omega arith)
+    field-requires
+    (λ c. search rules)
+    (λ c. search rules)
+    returns-3
+    (λ c. search rules)
+    (λ c. omega arith)
+    (λ c. omega arith)
+    loop-less
+    loop-again
+    returns-4)
