@@ -45,6 +45,8 @@ eq_configurations→eq (c ∷ cs) (d ∷ ds) t =
     let (l, k) = and_elim (eqb c.location d.location) (eq_list c.class d.class) h in
     let same : c ≡ d = configuration-path c d (eqb→eq c.location d.location l) (eq_list→eq c.class d.class k) in
     cc (same, eq_configurations→eq cs ds rest)
+eq_configurations→eq [] (d ∷ ds) t = elim t [ ]
+eq_configurations→eq (c ∷ cs) [] t = elim t [ ]
 
 no-class : (n c : ℕ) (m : List ℕ) → T (is_none (class_of_matrix n c m)) → Means (no_class n c m)
 no-class n c m t cs d e = go (class_of_matrix n c m) t (subst (λ b. ClassAnswer cs n m (class_of_matrix n b m)) e (class_of-matrix cs n m d))

@@ -48,8 +48,8 @@ module _ (a : Automaton) where
     stopped-stays s (later {s' = t} p e u) = let w = stopped-stays t u in record {
       path = before w;
       begins = refl;
-      steps = λ i. elim i [ zero ↦ inl (subst⁻¹ (Step a s) w.begins e) | suc k ↦ w.steps k ];
-      holds = λ i. elim i [ zero ↦ p | suc k ↦ w.holds k ];
+      steps = λ i. elim i as (λ k. StepOrStay a (before w k) (before w (suc k))) [ zero ↦ inl (subst⁻¹ (Step a s) w.begins e) | suc k ↦ w.steps k ];
+      holds = λ i. elim i as (λ k. P (before w k)) [ zero ↦ p | suc k ↦ w.holds k ];
     }
       where
         before : Forever (StepOrStay a) P t → ℕ → State

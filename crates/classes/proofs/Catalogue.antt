@@ -77,6 +77,7 @@ index-mem (l ∷ ls) k m = step (eq_list l k) refl (index-mem ls k)
         → (cond b 0 (suc (index ls k)) < length (l ∷ ls)) × (get_or (l ∷ ls) (cond b 0 (suc (index ls k))) [] ≡ k)
     step true e rest = (omega arith, eq_list→eq l k (subst⁻¹ T e tt))
     step false e rest = let (h, f) = rest (tail e) in (omega arith, f)
+index-mem [] k m = elim m [ ]
 
 pub index-get_or : (ls : List (List ℕ)) (i : ℕ) → Ascending ls → i < length ls → index ls (get_or ls i []) ≡ i
 index-get_or [] i a h = absurd (omega arith)

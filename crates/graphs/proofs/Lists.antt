@@ -48,6 +48,8 @@ eqb_sym a b = T-ext (eqb a b) (eqb b a) (λ t. rw (eqb→eq a b t) (eqb_refl b))
 pub eq_list→eq : (xs ys : List ℕ) → T (eq_list xs ys) → xs ≡ ys
 eq_list→eq [] [] t = refl
 eq_list→eq (x ∷ xs) (y ∷ ys) t = let (h, r) = and_elim (eqb x y) (eq_list xs ys) t in cc (eqb→eq x y h, eq_list→eq xs ys r)
+eq_list→eq [] (y ∷ ys) t = elim t [ ]
+eq_list→eq (x ∷ xs) [] t = elim t [ ]
 
 pub eq_list_refl : (xs : List ℕ) → T (eq_list xs xs)
 eq_list_refl [] = tt
@@ -75,6 +77,7 @@ module _ {A : Type 0} where
   pub all_of-mem : (p : A → Bool) (xs : List A) {x : A} → T (all_of p xs) → Memᴰ x xs → T (p x)
   all_of-mem p (y ∷ ys) t (Memᴰ.head e) = rw e (and_l (p y) (all_of p ys) t)
   all_of-mem p (y ∷ ys) t (Memᴰ.tail m) = all_of-mem p ys (and_r (p y) (all_of p ys) t) m
+  all_of-mem p [] t x4 = elim x4 [ ]
 
   pub all-intro : (p : A → Bool) (xs : List A) → ((x : A) → Memᴰ x xs → T (p x)) → T (all_of p xs)
   all-intro p [] h = tt
@@ -84,9 +87,10 @@ module _ {A : Type 0} where
   all_of-append p [] ys t u = u
   all_of-append p (x ∷ xs) ys t u = and_i (p x) (all_of p (xs ++ ys)) (and_l (p x) (all_of p xs) t) (all_of-append p xs ys (and_r (p x) (all_of p xs) t) u)
 
-  pub any_of-intro : (p : A → Bool) {xs : List A} {x : A} → Memᴰ x xs → T (p x) → T (any_of p xs)
+  pub any_of-intro : (p : A → Bool) {x : A} {xs : List A} → Memᴰ x xs → T (p x) → T (any_of p xs)
   any_of-intro p {xs = y ∷ ys} (Memᴰ.head e) t = cond-true (p y) (any_of p ys) (rw e at t)
   any_of-intro p {xs = y ∷ ys} (Memᴰ.tail m) t = cond-rest (p y) (any_of p ys) (any_of-intro p m t)
+  any_of-intro p {xs = []} x6 t = elim x6 [ ]
 
   pub any_of-elim : (p : A → Bool) (xs : List A) → T (any_of p xs) → (x : A) × Memᴰ x xs × T (p x)
   any_of-elim p (x ∷ xs) t = step (p x) refl t (any_of-elim p xs)
@@ -94,6 +98,7 @@ module _ {A : Type 0} where
       step : (b : Bool) → p x ≡ b → T (cond b true (any_of p xs)) → (T (any_of p xs) → (y : A) × Memᴰ y xs × T (p y)) → (y : A) × Memᴰ y (x ∷ xs) × T (p y)
       step true e t rest = (x, Memᴰ.head refl, rw e tt)
       step false e t rest = let (y, m, u) = rest t in (y, Memᴰ.tail m, u)
+  any_of-elim p [] t = elim t [ ]
 
   -- tests of equality, one by one and as lists
   pub all_of_eqb : (f g : A → ℕ) (xs : List A) → all_of (λ x. eqb (f x) (g x)) xs ≡ eq_list (map f xs) (map g xs)
@@ -124,6 +129,7 @@ module _ {A : Type 0} where
       step true e (Memᴰ.head d) rest = (Memᴰ.head d, rw (d, e) tt)
       step true e (Memᴰ.tail n) rest = let (k, t) = rest n in (Memᴰ.tail k, t)
       step false e n rest = let (k, t) = rest n in (Memᴰ.tail k, t)
+  select-mem p [] {x = x} m = elim m [ ]
 
   pub mem-select : (p : A → Bool) (xs : List A) {x : A} → Memᴰ x xs → T (p x) → Memᴰ x (select p xs)
   mem-select p (y ∷ ys) {x} (Memᴰ.head d) t = step (p y) (rw d at t)
@@ -136,6 +142,7 @@ module _ {A : Type 0} where
       step : (b : Bool) → Memᴰ x (select p ys) → Memᴰ x (cond b (y ∷ select p ys) (select p ys))
       step true n = Memᴰ.tail n
       step false n = n
+  mem-select p [] {x = x} x4 t = elim x4 [ ]
 
   -- what the first entry is that passes a test
   abbrev pub First : (A → Bool) → List A → Option A → Type 0
@@ -158,7 +165,7 @@ module _ {A : Type 0} where
   get_or-mem (x ∷ xs) zero d h = Memᴰ.head refl
   get_or-mem (x ∷ xs) (suc i) d h = Memᴰ.tail (get_or-mem xs i d (omega arith))
 
-  pub mem-get_or : {xs : List A} {x : A} (d : A) → Memᴰ x xs → (i : ℕ) × (i < length xs) × (get_or xs i d ≡ x)
+  pub mem-get_or : {x : A} {xs : List A} (d : A) → Memᴰ x xs → (i : ℕ) × (i < length xs) × (get_or xs i d ≡ x)
   mem-get_or d (Memᴰ.head e) = (zero, omega arith, sym e)
   mem-get_or d (Memᴰ.tail m) = let (i, h, e) = mem-get_or d m in (suc i, omega arith, e)
 
@@ -190,11 +197,13 @@ pub mem_flat_map : {A B : Type 0} (f : A → List B) (xs : List A) {x : A} {l : 
 unfolding flat_map
 mem_flat_map f (y ∷ ys) (Memᴰ.head e) m = Memᴰ.append_left (flat_map f ys) (rw e at m)
 mem_flat_map f (y ∷ ys) (Memᴰ.tail n) m = Memᴰ.append_right (f y) (mem_flat_map f ys n m)
+mem_flat_map {A = A} {B = B} f [] {l = l} x4 m = elim x4 [ ]
 
 pub flat_map_mem : {A B : Type 0} (f : A → List B) (xs : List A) {l : B} → Memᴰ l (flat_map f xs) → (x : A) × Memᴰ x xs × Memᴰ l (f x)
 unfolding flat_map
 flat_map_mem f (y ∷ ys) m =
     ⊎_elim (λ h. (y, Memᴰ.head refl, h)) (λ h. let (x, n, m') = flat_map_mem f ys h in (x, Memᴰ.tail n, m')) (Memᴰ.append_cases (f y) m)
+flat_map_mem {A = A} {B = B} f [] {l = l} m = elim m [ ]
 
 -- Tables
 
@@ -249,6 +258,7 @@ mem-up_from i (suc n) x h h' =
 pub up_from-mem : (i n : ℕ) {x : ℕ} → Memᴰ x (up_from i n) → (i ≤ x) × (x < i + n)
 up_from-mem i (suc n) (Memᴰ.head e) = omega arith
 up_from-mem i (suc n) (Memᴰ.tail m) = let (h, h') = up_from-mem (suc i) n m in omega arith
+up_from-mem i zero x3 = elim x3 [ ]
 
 -- functions that agree on them, how many values there are, and which
 pub up_from_agree : {A : Type 0} (f g : ℕ → A) (i n : ℕ) → ((j : ℕ) → i ≤ j → j < i + n → f j ≡ g j) → map f (up_from i n) ≡ map g (up_from i n)
