@@ -14,7 +14,7 @@ pub use scan::contents_of;
 pub use serving::{class_labels, fill_rows};
 
 // The class that has a matrix, if any has it.
-#[derive(Drop)]
+#[derive(Clone, Copy)]
 pub enum Found {
     Class(usize),
     NoClass,

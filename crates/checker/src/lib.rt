@@ -20,7 +20,7 @@ pub use replaying::{replay, replay_steps};
 pub use steps::{step, successors};
 
 // What opening a table gives, by value: its form, or the refusal.
-#[derive(Drop)]
+#[derive(Clone, Copy)]
 pub struct Opened {
     pub refused: bool,
     pub refusal: Refusal,

@@ -2,7 +2,7 @@
 use refusals::Refusal;
 
 // The answer to a target: never reached, or after so many steps; and how many configurations are reached.
-#[derive(Drop)]
+#[derive(Clone, Copy)]
 pub enum Reaching {
     Never { reached: u32 },
     Reached { steps: usize, reached: u32 },
@@ -10,14 +10,14 @@ pub enum Reaching {
 }
 
 // How a question is written: a file of rows (document 01), or a line of text (document 02, W1).
-#[derive(Drop)]
+#[derive(Clone, Copy)]
 pub enum Notation {
     Rows,
     Text,
 }
 
 // The answer to a question: it holds at every permitted start, or not, with the smallest failing start class and the number of its registers.
-#[derive(Drop)]
+#[derive(Clone, Copy)]
 pub enum Asking {
     Yes,
     No { class: usize, registers: usize },
@@ -25,7 +25,7 @@ pub enum Asking {
 }
 
 // The verdict on a run, bad with the first bad moment, or a refusal.
-#[derive(Drop)]
+#[derive(Clone, Copy)]
 pub enum Replayed {
     Good,
     Bad(usize),
@@ -33,7 +33,7 @@ pub enum Replayed {
 }
 
 // Whether a step leads from one configuration to another, or a refusal.
-#[derive(Drop)]
+#[derive(Clone, Copy)]
 pub enum Leads {
     Yes,
     No,

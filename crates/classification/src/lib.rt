@@ -28,14 +28,14 @@ ghost use Rattle.classification.specs.ClassClaims.{
 use refusals::Refusal;
 
 // A number, or a refusal.
-#[derive(Drop)]
+#[derive(Clone, Copy)]
 pub enum Number {
     Is(usize),
     Refused(Refusal),
 }
 
 // What a call says that writes to a lent buffer.
-#[derive(Drop)]
+#[derive(Clone, Copy)]
 pub enum Written {
     Done,
     Refused(Refusal),

@@ -9,7 +9,7 @@ ghost use Rattle.columns.specs.Columns.{column, line_columns};
 pub const LARGEST: u64 = 4294967295;
 
 // What lines stand on, as far as their widths differ.
-#[derive(Drop)]
+#[derive(Clone, Copy)]
 pub enum Sheet {
     // a table or a target
     Table,

@@ -20,14 +20,14 @@ use forms::Arc;
 use labelling::{Labelled, Seen};
 
 // The values in slots with parameters that were found.
-#[derive(Drop)]
+#[derive(Clone, Copy)]
 pub struct Found {
     pub found: bool,
     pub vals: [u32; 10],
 }
 
 // One step of a run: the number of the transition, from 1, the parameters and the new contents; transition 0 where there is none.
-#[derive(Drop)]
+#[derive(Clone, Copy)]
 pub struct Move {
     pub arc: u32,
     pub params: [u32; 3],
@@ -35,7 +35,7 @@ pub struct Move {
 }
 
 // Where a run stands: a location and the contents, zeros behind them.
-#[derive(Drop)]
+#[derive(Clone, Copy)]
 pub struct Stand {
     pub place: u32,
     pub contents: [u32; 5],

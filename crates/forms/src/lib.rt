@@ -172,7 +172,7 @@ pub fn parameters(form: &[u32], i: usize) -> usize
 }
 
 // Conditions: condition i says that the values in slots left[i] and right[i] are equal (equal[i] is 1) or different.
-#[derive(Drop)]
+#[derive(Clone, Copy)]
 pub struct Guard {
     pub count: u8,
     pub left: [u8; 8],
@@ -181,7 +181,7 @@ pub struct Guard {
 }
 
 // Assignments: assignment i writes the value in slot source[i] to the register of slot target[i].
-#[derive(Drop)]
+#[derive(Clone, Copy)]
 pub struct Sets {
     pub count: u8,
     pub source: [u8; 5],
@@ -189,7 +189,7 @@ pub struct Sets {
 }
 
 // A transition, with its number of parameters.
-#[derive(Drop)]
+#[derive(Clone, Copy)]
 pub struct Arc {
     pub from: u8,
     pub action: u8,
@@ -393,7 +393,7 @@ pub fn holds(g: Guard, vals: &[u32; 10]) -> bool
 }
 
 // What a field of a row names. A location is document 01's place.
-#[derive(Drop)]
+#[derive(Clone, Copy)]
 pub enum Use {
     Location,
     Register,
@@ -403,7 +403,7 @@ pub enum Use {
 }
 
 // What an operation takes: true, or the row that the first or the second field names, as it is or negated.
-#[derive(Drop)]
+#[derive(Clone, Copy)]
 pub enum Operand {
     True,
     First,
@@ -413,7 +413,7 @@ pub enum Operand {
 }
 
 // The seven operations: the location, two registers equal, a register equal to a constant; and, EX, E U and EG.
-#[derive(Drop)]
+#[derive(Clone, Copy)]
 pub enum Operation {
     At,
     Equal,
@@ -425,14 +425,14 @@ pub enum Operation {
 }
 
 // The rule that gives the set of a row: an operation, as it is or negated.
-#[derive(Drop)]
+#[derive(Clone, Copy)]
 pub enum Rule {
     Plain(Operation),
     Not(Operation),
 }
 
 // A kind of row: what its fields name, and its rule.
-#[derive(Drop)]
+#[derive(Clone, Copy)]
 pub struct Shape {
     pub first: Use,
     pub second: Use,

@@ -8,14 +8,14 @@ ghost use Rattle.lists.specs.Arrays.{padded};
 ghost use Rattle.labelling.specs.Noted.{known, seen_of, Tidy, labelled};
 
 // Identifiers in order: those that have a label, or those to choose from.
-#[derive(Drop)]
+#[derive(Clone, Copy)]
 pub struct Seen {
     pub count: usize,
     pub ids: [u32; 17],
 }
 
 // The labels of some values, and the identifiers that have a label afterwards.
-#[derive(Drop)]
+#[derive(Clone, Copy)]
 pub struct Labelled {
     pub labels: [u8; 5],
     pub seen: Seen,

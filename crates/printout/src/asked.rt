@@ -17,7 +17,7 @@ use claims::Notation;
 use columns::Sheet;
 use libc::STDOUT_FILENO;
 
-#[derive(Drop)]
+#[derive(Clone, Copy)]
 pub struct Numbers {
     pub count: usize,
     pub values: [u32; 7],

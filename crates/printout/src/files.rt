@@ -3,7 +3,7 @@ ghost use Rattle.io.specs.Counts.{IsPrefixLen};
 
 // What a program did: how many bytes of the table and of the other file it read, how many of its text it handed to C's write, and whether all of
 // them could be written.
-#[derive(Drop)]
+#[derive(Clone, Copy)]
 pub struct Printed {
     pub table: usize,
     pub other: usize,

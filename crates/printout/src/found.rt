@@ -13,7 +13,7 @@ use checker::Reaching;
 use columns::Sheet;
 use libc::STDOUT_FILENO;
 
-#[derive(Drop)]
+#[derive(Clone, Copy)]
 pub struct Numbers {
     pub count: usize,
     pub values: [u32; 4],

@@ -17,7 +17,7 @@ use forms::{Question, Use};
 use refusals::Refusal;
 
 // How many registers, constants and locations the table has.
-#[derive(Drop)]
+#[derive(Clone, Copy)]
 pub struct Counts {
     pub registers: u32,
     pub constants: u32,
@@ -107,7 +107,7 @@ fn accept(n: u32, f: [u64; 6], t: &mut [u32])
     forms::put_question_row(t, n, k, a, b);
 }
 
-#[derive(Drop)]
+#[derive(Clone, Copy)]
 pub enum Reply {
     // with the number of rows
     Accepted(usize),

@@ -16,7 +16,7 @@ use forms::Form;
 use refusals::Refusal;
 
 // How far a table is read. Locations are document 01's places, transitions its arcs.
-#[derive(Drop)]
+#[derive(Clone, Copy)]
 pub struct Progress {
     // the counts of line 1
     pub registers: u32,
@@ -64,7 +64,7 @@ fn has_term(p: Progress, k: u64, n: u64) -> bool
 }
 
 // What the table of kinds says of a line here, but for the ranges of its fields.
-#[derive(Drop)]
+#[derive(Clone, Copy)]
 pub struct Kind {
     // how many fields it has
     pub fields: usize,
@@ -320,7 +320,7 @@ fn accept(p: Progress, f: [u32; 6], t: &mut [u32]) -> Progress
     advanced(p, k, f, params)
 }
 
-#[derive(Drop)]
+#[derive(Clone, Copy)]
 pub enum Reply {
     Accepted,
     Refused(Refusal),

@@ -11,21 +11,21 @@ ghost use Rattle.replay.specs.Progress.{begun, stopped, advanced, judged, slot_v
 use forms::Arc;
 
 // A step of a run: a transition's number (document 01's arc), its parameters, the new contents; unused slots are 0.
-#[derive(Drop)]
+#[derive(Clone, Copy)]
 pub struct Step {
     pub arc: u32,
     pub params: [u32; 3],
     pub next: [u32; 5],
 }
 
-#[derive(Drop)]
+#[derive(Clone, Copy)]
 pub enum Verdict {
     Good,
     Bad(usize),
 }
 
 // How far the replay is: the place and contents, or, once it is bad, the first bad moment.
-#[derive(Drop)]
+#[derive(Clone, Copy)]
 pub struct Progress {
     pub place: u32,
     pub contents: [u32; 5],

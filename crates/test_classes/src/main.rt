@@ -11,7 +11,7 @@ const HEADER: usize = 170;
 const SWEEP: usize = 68;
 
 // What a call gave: 0 or the refusal's number, and the digest of all of it.
-#[derive(Drop)]
+#[derive(Clone, Copy)]
 struct Outcome {
     reply: u32,
     digest: u64,

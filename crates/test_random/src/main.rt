@@ -12,7 +12,7 @@ const BY_ROWS: usize = 13;
 const BY_TEXT: usize = 17;
 
 // What a call gave: its reply (0 reached, yes or good; 1 never, no or bad; 2 refused), and whether all of it is as expected.
-#[derive(Drop)]
+#[derive(Clone, Copy)]
 struct Outcome {
     reply: usize,
     same: bool,

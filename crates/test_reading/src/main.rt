@@ -8,7 +8,7 @@ use refusals::Refusal;
 const CASES: u32 = 334;
 
 // The refusal's numbers, zeros where all is read, and the files that were there.
-#[derive(Drop)]
+#[derive(Clone, Copy)]
 struct Tried {
     number: u32,
     file: u32,

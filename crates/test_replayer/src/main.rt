@@ -17,7 +17,7 @@ fn replay_first(table: &[u8], start: [u32; 5], run: [Step; 24], n: usize) -> Rep
 }
 
 // A reply as it is printed: 1 good; 0 and the first bad moment; or 2 and the refusal's numbers.
-#[derive(Drop)]
+#[derive(Clone, Copy)]
 struct Shown {
     reply: u32,
     number: u32,

@@ -7,7 +7,7 @@ use trial::{FILL, START};
 const HEADER: usize = 340;
 
 // What the calls of a probe gave so far: the digests of steps and successors.
-#[derive(Drop)]
+#[derive(Clone, Copy)]
 struct Seen {
     steps: u64,
     rows: u64,

@@ -264,7 +264,7 @@ fn pair(s: &Text, n: u32, t: &mut Question, at: u32, rows: u32, until: bool) -> 
 }
 
 // A text that is read to its end, with the number of its rows, or the byte, from 1, at which it is outside the grammar.
-#[derive(Drop)]
+#[derive(Clone, Copy)]
 pub enum Scanned {
     Whole(u32),
     Outside(u32),

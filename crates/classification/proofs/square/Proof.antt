@@ -7,7 +7,7 @@ use native.Mathlib.Omega.{arith}
 use Rattle.classification.proofs.square.Statement.{statement}
 use Rattle.classification.proofs.square.Tie as tie
 
-mul-result : tie.Need-overflow-mul-result
+mul-result : tie.Need-overflow_mul-result
 mul-result c =
     let p : c.args.n ≤ 4294967295 = omega arith in
     omega (arith, mul-le-mul p p)

@@ -13,4 +13,4 @@ first_of_spec =
     (λ c. search rules)
     (λ c κs. search rules)
     (λ c. search rules)
-    (λ c. sym (get_or-eq_default c.before.before.args.numbers.now 0 (omega arith))))
+    (λ c. sym (get_or-eq_default c.args.numbers.now 0 (omega arith))))

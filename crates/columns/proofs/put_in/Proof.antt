@@ -10,23 +10,23 @@ use borrow.Author.Rules.{rules}
 use Rattle.columns.proofs.put_in.Statement.{statement}
 use Rattle.columns.proofs.put_in.Tie as tie
 
-abbrev invariant-loop : tie.invariant-loop
+abbrev invariant-loop : tie.invariant-loop-i
 invariant-loop line₀ at width v i₀ rest₀ line i rest =
     (i ≤ width) × (length line ≡ length line₀) × (line ≡ sets line₀ (at + i) (column (width - i) v)) × (rest ≡ v / 10 ^ (width - i))
 
-abbrev decreases-loop : tie.decreases-loop
+abbrev decreases-loop : tie.decreases-loop-i
 decreases-loop line₀ at width v i₀ rest₀ line i rest = i
 
-loop-holds : tie.Need-loop-init invariant-loop decreases-loop
+loop-holds : tie.Need-loop-i-init invariant-loop decreases-loop
 loop-holds c =
-    let a = c.before.args in
+    let a = c.args in
     let (none, all) = columns-begun a.line.now a.at a.width a.v in
     (omega arith, refl, none, all)
 
-loop-again : tie.Need-loop-preserved invariant-loop decreases-loop
+loop-again : tie.Need-loop-i-preserved invariant-loop decreases-loop
 loop-again c =
-    let a = c.before.before.before.before.args in
-    let l = c.before.before.loop in
+    let a = c.args in
+    let l = c.loop-i in
     let next : l.i ≡ suc (l.i - 1) = omega arith in (
       omega (arith, l.invariant.0),
       simp length-set l.invariant.1,
@@ -36,8 +36,8 @@ loop-again c =
 
 returns : tie.Need-returns invariant-loop decreases-loop
 returns c =
-    let a = c.before.before.before.args in
-    let l = c.before.loop in
+    let a = c.args in
+    let l = c.loop-i in
     columns-done a.line.now l.line a.at a.width a.v l.i (omega arith) l.invariant.2
 
 pub put_in_spec : {M : Type 1} → statement M

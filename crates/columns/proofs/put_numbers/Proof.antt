@@ -11,44 +11,44 @@ use borrow.Author.Rules.{rules}
 use Rattle.columns.proofs.put_numbers.Statement.{statement}
 use Rattle.columns.proofs.put_numbers.Tie as tie
 
-abbrev invariant-loop : tie.invariant-loop
+abbrev invariant-loop : tie.invariant-loop-i
 invariant-loop line₀ at sheet numbers first i₀ end₀ line i end =
     let w = width sheet (get_or numbers 0 0) in
     (i ≤ length numbers) × (end + length (columns w i (drop i numbers)) ≡ at + length (line_columns sheet numbers)) × (length line ≡ length line₀)
     × (sets line end (columns w i (drop i numbers)) ≡ sets line₀ at (line_columns sheet numbers))
 
-abbrev decreases-loop : tie.decreases-loop
+abbrev decreases-loop : tie.decreases-loop-i
 decreases-loop line₀ at sheet numbers first i₀ end₀ line i end = length numbers - i
 
-loop-holds : tie.Need-loop-init invariant-loop decreases-loop
+loop-holds : tie.Need-loop-i-init invariant-loop decreases-loop
 loop-holds c = (omega arith, refl, refl, refl)
 
-put-in-requires : tie.Need-put-in-requires invariant-loop decreases-loop
+put-in-requires : tie.Need-put_in-requires invariant-loop decreases-loop
 put-in-requires c κs =
-    let a = c.before.before.before.before.before.before.before.before.args in
-    let pre = c.before.before.before.before.before.before.before.before.requires in
-    let l = c.before.before.before.before.loop in
-    let wide = c.before.before.width.ensures ∙ ap (λ k. width a.sheet k l.i) c.before.before.before.before.before.first_of.ensures in
-    omega (arith, pre, wide, l.invariant.1, l.invariant.2, number-room a.numbers.now (width a.sheet (get_or a.numbers.now 0 0)) l.i c.before.before.before.loop-test.true)
+    let a = c.args in
+    let pre = c.requires in
+    let l = c.loop-i in
+    let wide = c.width-columns.ensures ∙ ap (λ k. width a.sheet k l.i) c.first_of-first.ensures in
+    omega (arith, pre, wide, l.invariant.1, l.invariant.2, number-room a.numbers.now (width a.sheet (get_or a.numbers.now 0 0)) l.i c.loop-i-test.true)
 
-add-end : tie.Need-overflow-add-end invariant-loop decreases-loop
+add-end : tie.Need-overflow_add-end invariant-loop decreases-loop
 add-end c =
-    let a = c.before.before.before.before.before.before.before.before.before.before.before.args in
-    let pre = c.before.before.before.before.before.before.before.before.before.before.before.requires in
-    let l = c.before.before.before.before.before.before.before.loop in
-    let wide = c.before.before.before.before.before.width.ensures ∙ ap (λ k. width a.sheet k l.i) c.before.before.before.before.before.before.before.before.first_of.ensures in
-    omega (arith, pre, wide, l.invariant.1, number-room a.numbers.now (width a.sheet (get_or a.numbers.now 0 0)) l.i c.before.before.before.before.before.before.loop-test.true)
+    let a = c.args in
+    let pre = c.requires in
+    let l = c.loop-i in
+    let wide = c.width-columns.ensures ∙ ap (λ k. width a.sheet k l.i) c.first_of-first.ensures in
+    omega (arith, pre, wide, l.invariant.1, number-room a.numbers.now (width a.sheet (get_or a.numbers.now 0 0)) l.i c.loop-i-test.true)
 
-loop-again : tie.Need-loop-preserved invariant-loop decreases-loop
+loop-again : tie.Need-loop-i-preserved invariant-loop decreases-loop
 loop-again c =
-    let a = c.before.before.before.before.before.before.before.before.before.before.before.args in
-    let l = c.before.before.before.before.before.before.before.loop in
-    let p = c.before.before.put_in in
+    let a = c.args in
+    let l = c.loop-i in
+    let p = c.put_in in
     let w = width a.sheet (get_or a.numbers.now 0 0) in
-    let n = c.before.before.before.before.before.width.result in
-    let wide : n ≡ w l.i = c.before.before.before.before.before.width.ensures ∙ ap (λ k. width a.sheet k l.i) c.before.before.before.before.before.before.before.before.first_of.ensures in
-    let more : l.i < length a.numbers.now = c.before.before.before.before.before.before.loop-test.true in
-    let same : length p.new.0 ≡ length l.line = c.before.line.given in (
+    let n = c.width-columns.result in
+    let wide : n ≡ w l.i = c.width-columns.ensures ∙ ap (λ k. width a.sheet k l.i) c.first_of-first.ensures in
+    let more : l.i < length a.numbers.now = c.loop-i-test.true in
+    let same : length p.new.line ≡ length l.line = c.line-1.given in (
       omega arith,
       omega (arith, wide, l.invariant.1, number-room a.numbers.now w l.i more),
       same ∙ l.invariant.2,
@@ -59,8 +59,8 @@ loop-again c =
 
 returns : tie.Need-returns invariant-loop decreases-loop
 returns c =
-    let a = c.before.before.before.before.before.args in
-    let l = c.before.loop in
+    let a = c.args in
+    let l = c.loop-i in
     let w = width a.sheet (get_or a.numbers.now 0 0) in (
       omega (arith, l.invariant.1, none-left_over a.numbers.now w l.i (omega arith)),
       numbers_done a.numbers.now w l.line (sets a.line.now a.at (line_columns a.sheet a.numbers.now)) l.end l.i (omega arith) l.invariant.3,

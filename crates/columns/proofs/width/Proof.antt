@@ -11,5 +11,5 @@ width_spec =
     tie.close
     (tie.spec
     (λ c κs. search rules)
-    (λ c. simp (sym c.before.is-identifier.ensures ∙ c.if1.true))
-    (λ c. simp (sym c.before.is-identifier.ensures ∙ c.if1.false)))
+    (λ c. simp (sym c.is_identifier.ensures ∙ c.if-is_identifier.true))
+    (λ c. simp (sym c.is_identifier.ensures ∙ c.if-is_identifier.false)))

@@ -29,10 +29,10 @@ renewed-requires c κs =
       c.before.before.before.before.before.registers.ensures.1,
     )
 
-cast-t20 : tie.Need-overflow-cast-t20
+cast-t20 : tie.Need-overflow_cast-t20
 cast-t20 c = let e = c.before.before.before.before.before.before.before.before.before.before.before in omega (arith, e.requires.1, (form_limits e.args.form.now e.requires.0.readable).transitions)
 
-add-t21 : tie.Need-overflow-add-t21
+add-t21 : tie.Need-overflow_add-t21
 add-t21 c = let e = c.before.before.before.before.before.before.before.before.before.before.before in omega (arith, e.requires.1, (form_limits e.args.form.now e.requires.0.readable).transitions)
 
 returns : tie.Need-returns

@@ -40,10 +40,10 @@ returns-3 c =
     let v = c.before.before.before.before.before.loop in
     sym (ap value_of (sym v.invariant.2 ∙ digits-zero a.args.s.now v.i a.args.end c.before.before.before.before.loop-test.true a.requires.1 v.v c.before.before.if1.false c.before.if2.false c.if3.true))
 
-mul-v : tie.Need-overflow-mul-v invariant-loop decreases-loop
+mul-v : tie.Need-overflow_mul-v invariant-loop decreases-loop
 mul-v c = let v = c.before.before.before.before.before.loop in omega (arith, room-value v.v _ v.invariant.1)
 
-add-v : tie.Need-overflow-add-v invariant-loop decreases-loop
+add-v : tie.Need-overflow_add-v invariant-loop decreases-loop
 add-v c = let v = c.before.before.before.before.before.before.loop in omega (arith, room-value v.v _ v.invariant.1, c.wide2.ensures)
 
 loop-again : tie.Need-loop-preserved invariant-loop decreases-loop

@@ -27,13 +27,13 @@ sets-at-requires c κs =
     let f = located e.args.form.now e.requires.0 e.args.i e.requires.1 in
     (e.requires.0.long, omega (arith, f.low), f.assigns)
 
-cast-t13 : tie.Need-overflow-cast-t13
+cast-t13 : tie.Need-overflow_cast-t13
 cast-t13 c = let e = c.before.before.before.before.before.before.before.before.before in omega (arith, c.before.before.before.before.before.before.before.field.ensures, (located e.args.form.now e.requires.0 e.args.i e.requires.1).from.1)
 
-cast-t14 : tie.Need-overflow-cast-t14
+cast-t14 : tie.Need-overflow_cast-t14
 cast-t14 c = let e = c.before.before.before.before.before.before.before.before.before in omega (arith, c.before.before.before.before.before.before.field2.ensures, (located e.args.form.now e.requires.0 e.args.i e.requires.1).action.1)
 
-cast-t15 : tie.Need-overflow-cast-t15
+cast-t15 : tie.Need-overflow_cast-t15
 cast-t15 c = let e = c.before.before.before.before.before.before.before.before.before in omega (arith, c.before.before.before.before.before.field3.ensures, (located e.args.form.now e.requires.0 e.args.i e.requires.1).to.1)
 
 returns : tie.Need-returns

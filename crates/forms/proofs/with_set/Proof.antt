@@ -10,13 +10,13 @@ use Rattle.forms.proofs.with_set.Tie as tie
 returns : tie.Need-returns
 returns c = let e = c.before.before.before.args in sym (sets_with-none e.s e.form.now e.row c.if1.true)
 
-cast-register : tie.Need-overflow-cast-register
+cast-register : tie.Need-overflow_cast-register
 cast-register c = let e = c.before.before.before.before.before in omega (arith, (assignment_numbers e.args.form.now e.args.row e.requires.3 c.before.before.if1.false).0)
 
 slot-requires : tie.Need-slot-requires
 slot-requires c κs = let e = c.before.before.before.before.before.before.before in (assignment_numbers e.args.form.now e.args.row e.requires.3 c.before.before.before.before.if1.false).1
 
-add-target : tie.Need-overflow-add-target
+add-target : tie.Need-overflow_add-target
 add-target c = let e = c.before.before.before.before.before.before.before.before.before.before in omega (arith, (assignment_numbers e.args.form.now e.args.row e.requires.3 c.before.before.before.before.before.before.before.if1.false).0)
 
 returns-2 : tie.Need-returns-2

@@ -6,13 +6,13 @@ use Rattle.labelling.proofs.Noted.{tidy_wider, note_old, note_new}
 use Rattle.labelling.proofs.note.Statement.{statement}
 use Rattle.labelling.proofs.note.Tie as tie
 
-returns : tie.Need-returns
-returns c = let e = c.before.before.before in note_old 16 e.args.s e.requires e.args.x (omega (arith, c.before.before.place.ensures.0))
+returns : tie.Need-returns-then-place-s
+returns c = let e = c in note_old 16 e.args.s e.requires e.args.x (omega (arith, c.place.ensures.0))
 
-returns-2 : tie.Need-returns-2
+returns-2 : tie.Need-returns
 returns-2 c =
-    let e = c.before.before.before.before in
-    c.push.ensures ∙ note_new 16 e.args.s e.requires e.args.x (omega (arith, c.before.before.before.place.ensures.0))
+    let e = c in
+    c.push.ensures ∙ note_new 16 e.args.s e.requires e.args.x (omega (arith, c.place.ensures.0))
 
 pub note_spec : {M : Type 1} → statement M
 note_spec =
@@ -20,5 +20,5 @@ note_spec =
     (tie.spec
     (λ c κs. tidy_wider 16 c.args.s c.requires 17 (omega arith))
     returns
-    (λ c κs. c.before.before.before.requires)
+    (λ c κs. c.requires)
     returns-2)

@@ -12,33 +12,33 @@ use Rattle.labelling.proofs.NotedTurns.{is_at, position_first}
 use Rattle.labelling.proofs.position_of.Statement.{statement}
 use Rattle.labelling.proofs.position_of.Tie as tie
 
-abbrev invariant-loop : tie.invariant-loop
+abbrev invariant-loop : tie.invariant-loop-i
 invariant-loop list n x i₀ i = (i ≤ n) × (first_from (is_at list x) i (n - i) ≡ position (take n list) x)
 
-abbrev decreases-loop : tie.decreases-loop
+abbrev decreases-loop : tie.decreases-loop-i
 decreases-loop list n x i₀ i = n - i
 
-loop-holds : tie.Need-loop-init invariant-loop decreases-loop
+loop-holds : tie.Need-loop-i-init invariant-loop decreases-loop
 loop-holds c =
     let a = c.args in
     (search rules, first-start (is_at a.list.now a.x) a.n 0 ∙ position_first a.list.now a.n a.x c.requires)
 
-returns : tie.Need-returns invariant-loop decreases-loop
+returns : tie.Need-returns-then-list-i invariant-loop decreases-loop
 returns c =
-    let a = c.before.before.before.before.args in
-    let l = c.before.before.before.loop in
-    (sym (first-here (is_at a.list.now a.x) a.n l.i (search rules) (eq-eqb _ _ c.if1.true)) ∙ l.invariant.1, search rules)
+    let a = c.args in
+    let l = c.loop-i in
+    (sym (first-here (is_at a.list.now a.x) a.n l.i (search rules) (eq-eqb _ _ c.if-list-i.true)) ∙ l.invariant.1, search rules)
 
-loop-again : tie.Need-loop-preserved invariant-loop decreases-loop
+loop-again : tie.Need-loop-i-preserved invariant-loop decreases-loop
 loop-again c =
-    let a = c.before.before.before.before.args in
-    let l = c.before.before.before.loop in
-    (search rules, sym (first-later (is_at a.list.now a.x) a.n l.i (search rules) (ne_eqb _ _ c.if1.false)) ∙ l.invariant.1)
+    let a = c.args in
+    let l = c.loop-i in
+    (search rules, sym (first-later (is_at a.list.now a.x) a.n l.i (search rules) (ne_eqb _ _ c.if-list-i.false)) ∙ l.invariant.1)
 
-returns-2 : tie.Need-returns-2 invariant-loop decreases-loop
+returns-2 : tie.Need-returns invariant-loop decreases-loop
 returns-2 c =
-    let a = c.before.before.args in
-    let l = c.before.loop in
+    let a = c.args in
+    let l = c.loop-i in
     (sym (first-none (is_at a.list.now a.x) a.n l.i (search rules)) ∙ l.invariant.1, search rules)
 
 pub position_of_spec : {M : Type 1} → statement M

@@ -9,38 +9,38 @@ use Rattle.labelling.proofs.NotedTurns.{Same, same-passed, same_failed, same_end
 use Rattle.labelling.proofs.same_entries.Statement.{statement}
 use Rattle.labelling.proofs.same_entries.Tie as tie
 
-abbrev invariant-loop : tie.invariant-loop
+abbrev invariant-loop : tie.invariant-loop-i
 invariant-loop a b i₀ i = (length (take (length b) a) ≡ length b) × (i ≤ length b) × Same (take (length b) a) b i
 
-abbrev decreases-loop : tie.decreases-loop
+abbrev decreases-loop : tie.decreases-loop-i
 decreases-loop a b i₀ i = length b - i
 
-loop-holds : tie.Need-loop-init invariant-loop decreases-loop
+loop-holds : tie.Need-loop-i-init invariant-loop decreases-loop
 loop-holds c =
     let a = c.args in
     (length-take-le (length a.b.now) a.a.now (omega arith), omega arith, refl)
 
-returns : tie.Need-returns invariant-loop decreases-loop
+returns : tie.Need-returns-then-a-i invariant-loop decreases-loop
 returns c =
-    let a = c.before.before.before.before.before.args in
-    let l = c.before.before.before.before.loop in
+    let a = c.args in
+    let l = c.loop-i in
     sym (same_failed (take (length a.b.now) a.a.now) a.b.now l.i l.invariant.0 l.invariant.2 (omega arith)
-    (λ e. c.if1.true (sym (get_or-take (length a.b.now) a.a.now l.i 0 (omega arith)) ∙ e)))
+    (λ e. c.if-a-i.true (sym (get_or-take (length a.b.now) a.a.now l.i 0 (omega arith)) ∙ e)))
 
-loop-again : tie.Need-loop-preserved invariant-loop decreases-loop
+loop-again : tie.Need-loop-i-preserved invariant-loop decreases-loop
 loop-again c =
-    let a = c.before.before.before.before.before.args in
-    let l = c.before.before.before.before.loop in (
+    let a = c.args in
+    let l = c.loop-i in (
       l.invariant.0,
       omega arith,
       same-passed (take (length a.b.now) a.a.now) a.b.now l.i l.invariant.0 l.invariant.2 (omega arith)
-          (get_or-take (length a.b.now) a.a.now l.i 0 (omega arith) ∙ c.if1.false),
+          (get_or-take (length a.b.now) a.a.now l.i 0 (omega arith) ∙ c.if-a-i.false),
     )
 
-returns-2 : tie.Need-returns-2 invariant-loop decreases-loop
+returns-2 : tie.Need-returns invariant-loop decreases-loop
 returns-2 c =
-    let a = c.before.before.args in
-    let l = c.before.loop in
+    let a = c.args in
+    let l = c.loop-i in
     sym (same_ended (take (length a.b.now) a.a.now) a.b.now l.i l.invariant.0 l.invariant.2 (omega arith))
 
 pub same_entries_spec : {M : Type 1} → statement M

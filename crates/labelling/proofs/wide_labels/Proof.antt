@@ -18,4 +18,4 @@ wide_labels_spec =
     (λ c. search rules)
     (λ c. search rules)
     (λ c. search rules)
-    (λ c. five_numbers c.args.t1 (search rules)))
+    (λ c. five_numbers c.args.labels (search rules)))

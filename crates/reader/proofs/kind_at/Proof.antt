@@ -8,7 +8,7 @@ use Rattle.reader.proofs.Bounds.{other}
 use Rattle.reader.proofs.kind_at.Statement.{statement}
 use Rattle.reader.proofs.kind_at.Tie as tie
 
-add-kind-with-8 : tie.Need-overflow-add-kind-with-8
+add-kind-with-8 : tie.Need-overflow_add-kind-with-8
 add-kind-with-8 c = let h : Fits w32 c.before.before.before.before.before.before.before.before.before.before.before.args.n = search rules in omega arith
 
 pub kind_at_spec : {M : Type 1} → statement M

@@ -299,7 +299,7 @@ pair_returns_5 t c =
 
 -- A question
 
-question-add-pair : (t : ℕ) → question-lts.Need-overflow-add-pair (question_claims t) (question-at t) question.Post
+question-add-pair : (t : ℕ) → question-lts.Need-overflow_add-pair (question_claims t) (question-at t) question.Post
 question-add-pair t c = let w = c.before.before.before in omega (arith, w.requires.1, take_short w.args.n w.args.s.now w.requires.1.1)
 
 question-pair_requires : (t : ℕ) → question-lts.Need-pair-requires (question_claims t) (question-at t) question.Post

@@ -25,7 +25,7 @@ returns-2 c =
     let s = take a.n a.s.now in
     subst⁻¹ (RightNumber s a.at) (step-stopped a.at (omega (arith, short c.before.before.before))) (number_high s a.at _ c.before.before.byte_at.ensures c.before.before.before.requires.0 c.if2.true)
 
-add-next : tie.Need-overflow-add-next
+add-next : tie.Need-overflow_add-next
 add-next c = omega (arith, short c.before.before.before)
 
 read-requires : tie.Need-read-requires
@@ -46,7 +46,7 @@ returns-4 c =
     let s = take a.n a.s.now in
     subst⁻¹ (RightNumber s a.at) c.read2.ensures (number-one s a.at _ c.before.before.before.before.before.before.byte_at.ensures _ c.before.before.before.byte-at2.ensures c.before.before.before.before.before.if1.false c.before.before.before.before.if2.false (digit_high _ c.before.if4.true))
 
-add_read : tie.Need-overflow-add-read
+add_read : tie.Need-overflow_add-read
 add_read c = omega (arith, short c.before.before.before.before.before.before)
 
 read-requires-3 : tie.Need-read-requires-3

@@ -7,7 +7,7 @@ use Rattle.catalogue.specs.Listing.{raised_at, raised}
 use Rattle.catalogue.proofs.listing.raise.Statement.{statement}
 use Rattle.catalogue.proofs.listing.raise.Tie as tie
 
-add-next : tie.Need-overflow-add-next
+add-next : tie.Need-overflow_add-next
 add-next c = omega (arith, get_d_le 7 c.before.args.t1 c.rising.result c.before.requires.1)
 
 returns : tie.Need-returns

@@ -25,7 +25,7 @@ loop-holds c =
     let e : 0 * a.r ≡ 0 = omega arith in
     (length-take-le a.r a.t3 (omega arith), omega arith, refl, rw e)
 
-mul-fill-row : tie.Need-overflow-mul-fill-row invariant-loop decreases-loop
+mul-fill-row : tie.Need-overflow_mul-fill-row invariant-loop decreases-loop
 mul-fill-row c =
     let f = row_fits c.before.before.before.before.args.r c.before.before.loop.i (omega arith) in
     search rules

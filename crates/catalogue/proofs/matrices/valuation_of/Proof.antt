@@ -22,12 +22,12 @@ loop-holds c =
     let len = valuation-length a.r a.matrix.now in
     (len, copied_first (valuation_of a.r a.matrix.now) (omega arith))
 
-mul_at : tie.Need-overflow-mul-at invariant-loop decreases-loop
+mul_at : tie.Need-overflow_mul-at invariant-loop decreases-loop
 mul_at c =
     let f = row_fits c.before.before.before.args.r c.before.loop.i (omega arith) in
     search rules
 
-add-register-of : tie.Need-overflow-add-register-of invariant-loop decreases-loop
+add-register-of : tie.Need-overflow_add-register-of invariant-loop decreases-loop
 add-register-of c =
     let f = row_fits c.before.before.before.args.r c.before.loop.i (omega arith) in
     search rules

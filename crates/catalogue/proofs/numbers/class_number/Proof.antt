@@ -36,20 +36,20 @@ loop-holds c =
     let five : length a.t3 ≡ 5 = search rules in
     ranked_first a.r a.c (take a.r a.t3) c.requires.0 c.requires.1 (length-take-le a.r a.t3 (omega arith)) c.requires.2
 
-sub-sum : tie.Need-overflow-sub-sum invariant-loop decreases-loop
+sub-sum : tie.Need-overflow_sub-sum invariant-loop decreases-loop
 sub-sum c =
     let a = c.before.before.before.before.before.args in
     let l = c.before.before.before.before.loop in
     label_positive a.r a.c (take a.r a.t3) l.b l.sum l.i l.invariant (omega arith) _ (label c)
 
-mul-sum : tie.Need-overflow-mul-sum invariant-loop decreases-loop
+mul-sum : tie.Need-overflow_mul-sum invariant-loop decreases-loop
 mul-sum c =
     let a = c.before.before.before.before.before.args in
     let l = c.before.before.before.before.loop in
     let t = term-small a.r a.c (take a.r a.t3) l.b l.sum l.i l.invariant (omega arith) _ (label c) in
     rw (each c) (record { fits = omega arith })
 
-add-sum : tie.Need-overflow-add-sum invariant-loop decreases-loop
+add-sum : tie.Need-overflow_add-sum invariant-loop decreases-loop
 add-sum c =
     let a = c.before.before.before.before.before.args in
     let l = c.before.before.before.before.loop in

@@ -29,7 +29,7 @@ numbered c =
     let p = c.before.before.before.before.requires in
     c.wide16.ensures ∙ begins-entry (serving_rows a.r a.c) a.rows.now a.number p.3 (omega (arith, serving_length a.r a.c p.1 p.2))
 
-mul-wide16 : tie.Need-overflow-mul-wide16 invariant-loop decreases-loop
+mul-wide16 : tie.Need-overflow_mul-wide16 invariant-loop decreases-loop
 mul-wide16 c =
     let a = c.before.before.args in
     let p = c.before.before.requires in

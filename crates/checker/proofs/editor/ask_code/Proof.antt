@@ -18,13 +18,13 @@ opened c = let o = c.before.before.open-table.ensures in told_opened _ _ _ _ o.0
 asked : (c : tie.After-reply2) → Questioned c.before.before.before.before.before.before.before.before.before.before.before.before.args.notation c.before.before.before.before.before.before.before.before.before.before.before.before.args.table.now c.before.before.before.before.before.before.before.before.before.before.before.before.args.question.now c.before.before.before.before.before.before.before.open-table.new.1.0 c.before.before.read-rows.new.1.1.1.0 c.reply2.given.0.0
 asked c = let q = c.before.before.read-rows.ensures in told-rows _ _ _ _ (opened c.before.before.before.before.before).outcome _ _ _ _ q.0 q.1 c.reply2.given.1
 
-add-result : tie.Need-overflow-add-result
+add-result : tie.Need-overflow_add-result
 add-result c =
     let e = c.before.before.before.before.before.before.before.before.before.args in
     let d = told-refused (open_table e.table.now) _ _ c.before.before.before.before.open-table.ensures.0 c.before.before.opened.given.1 in
     omega (arith, question_files-low e.notation e.table.now e.question.now _ (question-table-refused e.notation e.table.now e.question.now _ d))
 
-add-result-2 : tie.Need-overflow-add-result-2
+add-result-2 : tie.Need-overflow_add-result-2
 add-result-2 c =
     let e = c.before.before.before.before.before.before.before.before.before.before.before.before.before.before.args in
     omega (arith, question_files-low e.notation e.table.now e.question.now _ (told-question-refused e.notation e.table.now e.question.now _ (opened c.before.before.before.before.before.before.before).outcome _ _ c.before.before.before.before.read-rows.ensures.0 c.before.before.reply.given.1))

@@ -18,13 +18,13 @@ opened c = let o = c.before.before.open-table.ensures in told_opened _ _ _ _ o.0
 aimed : (c : tie.After-enum-told2) → Targeted c.before.before.before.before.before.before.before.before.before.before.before.before.args.table.now c.before.before.before.before.before.before.before.before.before.before.before.before.args.target.now c.before.before.before.before.before.before.before.open-table.new.1.0 c.before.before.read-target.new.1.1.0
 aimed c = let q = c.before.before.read-target.ensures in told-target _ _ _ (opened c.before.before.before.before.before).outcome _ _ q.0 q.1 c.enum-told2.given.1
 
-add-result : tie.Need-overflow-add-result
+add-result : tie.Need-overflow_add-result
 add-result c =
     let e = c.before.before.before.before.before.before.before.before.before.args in
     let d = told-refused (open_table e.table.now) _ _ c.before.before.before.before.open-table.ensures.0 c.before.before.opened.given.1 in
     omega (arith, target_files-low e.table.now e.target.now _ (target-table-refused e.table.now e.target.now _ d))
 
-add-result-2 : tie.Need-overflow-add-result-2
+add-result-2 : tie.Need-overflow_add-result-2
 add-result-2 c =
     let e = c.before.before.before.before.before.before.before.before.before.before.before.before.before.before.args in
     omega (arith, target_files-low e.table.now e.target.now _ (told-target-refused e.table.now e.target.now _ (opened c.before.before.before.before.before.before.before).outcome _ _ c.before.before.before.before.read-target.ensures.0 c.before.before.reply.given.1))

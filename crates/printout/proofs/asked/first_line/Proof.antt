@@ -13,7 +13,7 @@ use borrow.Author.Rules.{rules}
 use Rattle.printout.proofs.asked.first_line.Statement.{statement}
 use Rattle.printout.proofs.asked.first_line.Tie as tie
 
-cast-t11 : tie.Need-overflow-cast-t11
+cast-t11 : tie.Need-overflow_cast-t11
 cast-t11 c = let h : c.before.before.reply.given.0.0 < 1000000 = subst (λ r. class_of r < 1000000) c.before.before.reply.given.1 c.before.before.before.before.requires in omega arith
 
 returns : tie.Need-returns

@@ -28,7 +28,7 @@ returns-2 c =
     let k : l.done ≤ length (put_mid l.done (length l.bytes - l.done) l.bytes c.before.before.before.before.before.before.before.read.new.1.0) = omega (arith, h.1) in
     (k, sym (length-take-le l.done _ k))
 
-add_done : tie.Need-overflow-add-done invariant-loop decreases-loop
+add_done : tie.Need-overflow_add-done invariant-loop decreases-loop
 add_done c = omega (arith, c.before.count.ensures.0.0)
 
 returns-3 : tie.Need-returns-3 invariant-loop decreases-loop

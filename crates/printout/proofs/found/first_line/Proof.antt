@@ -8,7 +8,7 @@ use borrow.Author.Rules.{rules}
 use Rattle.printout.proofs.found.first_line.Statement.{statement}
 use Rattle.printout.proofs.found.first_line.Tie as tie
 
-cast-t8 : tie.Need-overflow-cast-t8
+cast-t8 : tie.Need-overflow_cast-t8
 cast-t8 c = let h : suc c.before.reply2.given.0.0 ≤ 10785 = subst (λ r. moment_count r ≤ 10785) c.before.reply2.given.1 c.before.before.before.requires in omega arith
 
 returns : tie.Need-returns

@@ -7,7 +7,7 @@ use borrow.Author.Rules.{rules}
 use Rattle.printout.proofs.found.moments.Statement.{statement}
 use Rattle.printout.proofs.found.moments.Tie as tie
 
-add-result : tie.Need-overflow-add-result
+add-result : tie.Need-overflow_add-result
 add-result c = let h : suc c.before.reply.given.0.0 ≤ 10785 = subst (λ r. moment_count r ≤ 10785) c.before.reply.given.1 c.before.before.before.requires in omega arith
 
 returns-2 : tie.Need-returns-2

@@ -18,7 +18,7 @@ slice-write-text c =
     let a = c.before.before.before.before.before.before.args in
     omega (arith, c.before.before.before.before.before.before.requires, c.before.before.put-numbers.ensures.0, line-length a.sheet a.numbers.now)
 
-add-result : tie.Need-overflow-add-result
+add-result : tie.Need-overflow_add-result
 add-result c = omega (arith, slice-write-text c)
 
 returns : tie.Need-returns
