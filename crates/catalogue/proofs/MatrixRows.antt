@@ -114,6 +114,7 @@ position-mem (y ∷ k) x (Memᴰ.head e) = omega (arith, position-cons-same y x 
 position-mem (y ∷ k) x (Memᴰ.tail m) = by_cases (ℕ_discrete y x)
     (λ e. omega (arith, position-cons-same y x k e))
     (λ n. omega (arith, position-cons_other y x k n, position-mem k x m))
+position-mem [] x x3 = elim x3 [ ]
 
 -- cells that a function keeps
 table_kept : (p : ℕ → ℕ → ℕ) (f : ℕ → ℕ) (xs ys : List ℕ) → ((x y : ℕ) → Memᴰ x xs → Memᴰ y ys → p (f x) (f y) ≡ p x y)

@@ -30,6 +30,8 @@ eq_rows (k ∷ ks) (l ∷ ls) = eq_list k l && eq_rows ks ls
 eq_rows→eq : (ks ls : List (List ℕ)) → T (eq_rows ks ls) → ks ≡ ls
 eq_rows→eq [] [] t = refl
 eq_rows→eq (k ∷ ks) (l ∷ ls) t = let (h, r) = and_elim (eq_list k l) (eq_rows ks ls) t in cc (eq_list→eq k l h, eq_rows→eq ks ls r)
+eq_rows→eq [] (l ∷ ls) t = elim t [ ]
+eq_rows→eq (k ∷ ks) [] t = elim t [ ]
 
 right : ℕ → ℕ → Bool
 right r c = eq_rows (map (narrow_row r c) (select (serves r c) (lists 5 2))) (lists r c)

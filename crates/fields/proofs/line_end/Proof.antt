@@ -8,28 +8,28 @@ use Rattle.fields.proofs.LineParts.{end-here, end-next, end_last}
 use Rattle.fields.proofs.line_end.Statement.{statement}
 use Rattle.fields.proofs.line_end.Tie as tie
 
-abbrev invariant-loop : tie.invariant-loop
+abbrev invariant-loop : tie.invariant-loop-i
 invariant-loop s from i₀ i = (i ≤ length s) × (i + length (pieces (drop i s)).0 ≡ from + length (pieces (drop from s)).0)
 
-abbrev decreases-loop : tie.decreases-loop
+abbrev decreases-loop : tie.decreases-loop-i
 decreases-loop s from i₀ i = length s - i
 
-returns : tie.Need-returns invariant-loop decreases-loop
+returns : tie.Need-returns-then-s-i-eq10 invariant-loop decreases-loop
 returns c =
-    let v = c.before.before.before.loop in
-    let s = c.before.before.before.before.args.s.now in
-    omega (arith, v.invariant.1, end-here s v.i c.before.before.loop-test.true c.if1.true)
+    let v = c.loop-i in
+    let s = c.args.s.now in
+    omega (arith, v.invariant.1, end-here s v.i c.loop-i-test.true c.if-s-i-eq10.true)
 
-loop-again : tie.Need-loop-preserved invariant-loop decreases-loop
+loop-again : tie.Need-loop-i-preserved invariant-loop decreases-loop
 loop-again c =
-    let v = c.before.before.before.loop in
-    let s = c.before.before.before.before.args.s.now in
-    (omega arith, omega (arith, v.invariant.1, end-next s v.i c.before.before.loop-test.true c.if1.false))
+    let v = c.loop-i in
+    let s = c.args.s.now in
+    (omega arith, omega (arith, v.invariant.1, end-next s v.i c.loop-i-test.true c.if-s-i-eq10.false))
 
-returns-2 : tie.Need-returns-2 invariant-loop decreases-loop
+returns-2 : tie.Need-returns invariant-loop decreases-loop
 returns-2 c =
-    let v = c.before.loop in
-    omega (arith, v.invariant.1, end_last c.before.before.args.s.now v.i c.loop-test.false)
+    let v = c.loop-i in
+    omega (arith, v.invariant.1, end_last c.args.s.now v.i c.loop-i-test.false)
 
 pub line_end_spec : {M : Type 1} → statement M
 line_end_spec =

@@ -11,58 +11,58 @@ use Rattle.fields.proofs.FieldsTaken.{Room, room-first, room_more, room-value, d
 use Rattle.fields.proofs.number_from.Statement.{statement}
 use Rattle.fields.proofs.number_from.Tie as tie
 
-abbrev invariant-loop : tie.invariant-loop
+abbrev invariant-loop : tie.invariant-loop-i
 invariant-loop s from end first v₀ i₀ v i = (i ≤ end) × Room v (end - i) × (digits_from v (part s i end) ≡ digits_from first (part s from end))
 
-abbrev decreases-loop : tie.decreases-loop
+abbrev decreases-loop : tie.decreases-loop-i
 decreases-loop s from end first v₀ i₀ v i = end - i
 
-loop-holds : tie.Need-loop-init invariant-loop decreases-loop
+loop-holds : tie.Need-loop-i-init invariant-loop decreases-loop
 loop-holds c =
-    let e = c.before.before in
-    (e.requires.0, rw c.wide.ensures (room-first e.args.first (e.args.end - e.args.from) e.requires.3 (omega arith)), ap (λ v. digits_from v (part e.args.s.now e.args.from e.args.end)) c.wide.ensures)
+    let e = c in
+    (e.requires.0, rw c.wide-v.ensures (room-first e.args.first (e.args.end - e.args.from) e.requires.3 (omega arith)), ap (λ v. digits_from v (part e.args.s.now e.args.from e.args.end)) c.wide-v.ensures)
 
-returns : tie.Need-returns invariant-loop decreases-loop
+returns : tie.Need-returns-then-b-lt48 invariant-loop decreases-loop
 returns c =
-    let a = c.before.before.before.before.before.before in
-    let v = c.before.before.before.loop in
-    sym (ap value_of (sym v.invariant.2 ∙ digits_low a.args.s.now v.i a.args.end c.before.before.loop-test.true a.requires.1 v.v c.if1.true))
+    let a = c in
+    let v = c.loop-i in
+    sym (ap value_of (sym v.invariant.2 ∙ digits_low a.args.s.now v.i a.args.end c.loop-i-test.true a.requires.1 v.v c.if-b-lt48.true))
 
-returns-2 : tie.Need-returns-2 invariant-loop decreases-loop
+returns-2 : tie.Need-returns-then-b-gt57 invariant-loop decreases-loop
 returns-2 c =
-    let a = c.before.before.before.before.before.before.before in
-    let v = c.before.before.before.before.loop in
-    sym (ap value_of (sym v.invariant.2 ∙ digits_high a.args.s.now v.i a.args.end c.before.before.before.loop-test.true a.requires.1 v.v c.if2.true))
+    let a = c in
+    let v = c.loop-i in
+    sym (ap value_of (sym v.invariant.2 ∙ digits_high a.args.s.now v.i a.args.end c.loop-i-test.true a.requires.1 v.v c.if-b-gt57.true))
 
-returns-3 : tie.Need-returns-3 invariant-loop decreases-loop
+returns-3 : tie.Need-returns-then-v-eq0 invariant-loop decreases-loop
 returns-3 c =
-    let a = c.before.before.before.before.before.before.before.before in
-    let v = c.before.before.before.before.before.loop in
-    sym (ap value_of (sym v.invariant.2 ∙ digits-zero a.args.s.now v.i a.args.end c.before.before.before.before.loop-test.true a.requires.1 v.v c.before.before.if1.false c.before.if2.false c.if3.true))
+    let a = c in
+    let v = c.loop-i in
+    sym (ap value_of (sym v.invariant.2 ∙ digits-zero a.args.s.now v.i a.args.end c.loop-i-test.true a.requires.1 v.v c.if-b-lt48.false c.if-b-gt57.false c.if-v-eq0.true))
 
 mul-v : tie.Need-overflow_mul-v invariant-loop decreases-loop
-mul-v c = let v = c.before.before.before.before.before.loop in omega (arith, room-value v.v _ v.invariant.1)
+mul-v c = let v = c.loop-i in omega (arith, room-value v.v _ v.invariant.1)
 
 add-v : tie.Need-overflow_add-v invariant-loop decreases-loop
-add-v c = let v = c.before.before.before.before.before.before.loop in omega (arith, room-value v.v _ v.invariant.1, c.wide2.ensures)
+add-v c = let v = c.loop-i in omega (arith, room-value v.v _ v.invariant.1, c.wide.ensures)
 
-loop-again : tie.Need-loop-preserved invariant-loop decreases-loop
+loop-again : tie.Need-loop-i-preserved invariant-loop decreases-loop
 loop-again c =
-    let a = c.before.before.before.before.before.before.before.before.before in
-    let v = c.before.before.before.before.before.before.loop in
+    let a = c in
+    let v = c.loop-i in
     let s = a.args.s.now in
     let d = get_or s v.i 0 - 48 in
-    let digits : d ≤ 9 = omega (arith, c.before.before.if2.false) in (
+    let digits : d ≤ 9 = omega (arith, c.if-b-gt57.false) in (
       omega arith,
-      rw c.wide2.ensures (room_more v.v d (a.args.end - v.i) _ digits (omega arith) v.invariant.1),
-      rw c.wide2.ensures (sym (digits-next s v.i a.args.end c.before.before.before.before.before.loop-test.true a.requires.1 v.v c.before.before.before.if1.false c.before.before.if2.false c.before.if3.false) ∙ v.invariant.2),
+      rw c.wide.ensures (room_more v.v d (a.args.end - v.i) _ digits (omega arith) v.invariant.1),
+      rw c.wide.ensures (sym (digits-next s v.i a.args.end c.loop-i-test.true a.requires.1 v.v c.if-b-lt48.false c.if-b-gt57.false c.if-v-eq0.false) ∙ v.invariant.2),
     )
 
-returns-4 : tie.Need-returns-4 invariant-loop decreases-loop
+returns-4 : tie.Need-returns invariant-loop decreases-loop
 returns-4 c =
-    let a = c.before.before.before.before in
-    let v = c.before.loop in
-    ap value_of (sym (ap (digits_from v.v) (part_none a.args.s.now v.i a.args.end c.loop-test.false)) ∙ v.invariant.2)
+    let a = c in
+    let v = c.loop-i in
+    ap value_of (sym (ap (digits_from v.v) (part_none a.args.s.now v.i a.args.end c.loop-i-test.false)) ∙ v.invariant.2)
 
 pub number_from_spec : {M : Type 1} → statement M
 number_from_spec =

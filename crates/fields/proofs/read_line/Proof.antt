@@ -11,71 +11,71 @@ use Rattle.fields.proofs.FieldsTaken.{value_none, value-some, read_none, read_so
 use Rattle.fields.proofs.read_line.Statement.{statement}
 use Rattle.fields.proofs.read_line.Tie as tie
 
-abbrev invariant-loop : tie.invariant-loop
+abbrev invariant-loop : tie.invariant-loop-at
 invariant-loop sheet s from end row₀ at₀ count₀ row at count = Taken sheet s from end row at count × (length row ≡ 6)
 
-abbrev decreases-loop : tie.decreases-loop
+abbrev decreases-loop : tie.decreases-loop-at
 decreases-loop sheet s from end row₀ at₀ count₀ row at count = end - at
 
-loop-holds : tie.Need-loop-init invariant-loop decreases-loop
+loop-holds : tie.Need-loop-at-init invariant-loop decreases-loop
 loop-holds c =
-    let e = c.before in
+    let e = c in
     (taken-first e.args.sheet e.args.s.now e.args.from e.args.end e.requires.1 e.args.row.now e.requires.0 (e.requires.2 ∙ sym (padded-none 6)), ap (λ l. length l) e.requires.2)
 
-returns : tie.Need-returns invariant-loop decreases-loop
+returns : tie.Need-returns-then-count-ge6 invariant-loop decreases-loop
 returns c =
-    let e = c.before.before.before.before in
-    let v = c.before.before.loop in
-    read_none _ v.row (taken_full e.args.sheet e.args.s.now e.args.from e.args.end e.requires.1 v.row v.at v.count v.invariant.0 c.before.loop-test.true c.if1.true)
+    let e = c in
+    let v = c.loop-at in
+    read_none _ v.row (taken_full e.args.sheet e.args.s.now e.args.from e.args.end e.requires.1 v.row v.at v.count v.invariant.0 c.loop-at-test.true c.if-count-ge6.true)
 
-returns-2 : tie.Need-returns-2 invariant-loop decreases-loop
+returns-2 : tie.Need-returns-then-end-at invariant-loop decreases-loop
 returns-2 c =
-    let e = c.before.before.before.before.before.before.before in
-    let v = c.before.before.before.before.before.loop in
+    let e = c in
+    let v = c.loop-at in
     read_none _ v.row
-    (taken-short e.args.sheet e.args.s.now e.args.from e.args.end e.requires.1 v.row v.at v.count v.invariant.0 c.before.before.before.before.loop-test.true
-    c.before.before.before.if1.false c.before.width.result c.before.width.ensures (omega (arith, c.if2.true)))
+    (taken-short e.args.sheet e.args.s.now e.args.from e.args.end e.requires.1 v.row v.at v.count v.invariant.0 c.loop-at-test.true
+    c.if-count-ge6.false c.width-columns.result c.width-columns.ensures (omega (arith, c.if-end-at.true)))
 
 field-requires : tie.Need-field-requires invariant-loop decreases-loop
 field-requires c κs =
-    let w = c.before.width in
-    let v = c.before.before.before.before.before.loop in
-    let e = c.before.before.before.before.before.before.before in
-    (omega arith, omega (arith, c.if2.false, v.invariant.0.within, e.requires.1), omega (arith, w.ensures, width_is e.args.sheet (get_or v.row 0 0) v.count))
+    let w = c.width-columns in
+    let v = c.loop-at in
+    let e = c in
+    (omega arith, omega (arith, c.if-end-at.false, v.invariant.0.within, e.requires.1), omega (arith, w.ensures, width_is e.args.sheet (get_or v.row 0 0) v.count))
 
-returns-3 : tie.Need-returns-3 invariant-loop decreases-loop
+returns-3 : tie.Need-returns-in_default invariant-loop decreases-loop
 returns-3 c =
-    let e = c.before.before.before.before.before.before.before.before.before.before in
-    let v = c.before.before.before.before.before.before.before.before.loop in
-    let w = c.before.before.before.before.width in
+    let e = c in
+    let v = c.loop-at in
+    let w = c.width-columns in
     read_none _ v.row
-    (taken_missing e.args.sheet e.args.s.now e.args.from e.args.end e.requires.1 v.row v.at v.count v.invariant.0 c.before.before.before.before.before.before.before.loop-test.true
-    c.before.before.before.before.before.before.if1.false w.result w.ensures (omega (arith, c.before.before.before.if2.false))
-    (value_none _ (sym c.enum_told.given.1 ∙ c.before.before.field.ensures)))
+    (taken_missing e.args.sheet e.args.s.now e.args.from e.args.end e.requires.1 v.row v.at v.count v.invariant.0 c.loop-at-test.true
+    c.if-count-ge6.false w.result w.ensures (omega (arith, c.if-end-at.false))
+    (value_none _ (sym c.in_default.is ∙ c.field.ensures)))
 
-loop-less : tie.Need-loop-smaller invariant-loop decreases-loop
+loop-less : tie.Need-loop-at-smaller invariant-loop decreases-loop
 loop-less c =
-    let w = c.before.before.before.before.before.width in
-    let v = c.before.before.before.before.before.before.before.before.before.loop in
-    let e = c.before.before.before.before.before.before.before.before.before.before.before in
-    omega (arith, c.before.before.before.before.if2.false, w.ensures, width_is e.args.sheet (get_or v.row 0 0) v.count)
+    let w = c.width-columns in
+    let v = c.loop-at in
+    let e = c in
+    omega (arith, c.if-end-at.false, w.ensures, width_is e.args.sheet (get_or v.row 0 0) v.count)
 
-loop-again : tie.Need-loop-preserved invariant-loop decreases-loop
+loop-again : tie.Need-loop-at-preserved invariant-loop decreases-loop
 loop-again c =
-    let e = c.before.before.before.before.before.before.before.before.before.before.before in
-    let v = c.before.before.before.before.before.before.before.before.before.loop in
-    let w = c.before.before.before.before.before.width in (
-      taken_next e.args.sheet e.args.s.now e.args.from e.args.end e.requires.1 v.row v.at v.count v.invariant.0 c.before.before.before.before.before.before.before.before.loop-test.true
-          c.before.before.before.before.before.before.before.if1.false w.result w.ensures (omega (arith, c.before.before.before.before.if2.false, v.invariant.0.within)) _
-          (value-some _ _ (sym c.before.v.given.1 ∙ c.before.before.before.field.ensures)),
+    let e = c in
+    let v = c.loop-at in
+    let w = c.width-columns in (
+      taken_next e.args.sheet e.args.s.now e.args.from e.args.end e.requires.1 v.row v.at v.count v.invariant.0 c.loop-at-test.true
+          c.if-count-ge6.false w.result w.ensures (omega (arith, c.if-end-at.false, v.invariant.0.within)) _
+          (value-some _ _ (sym c.in-Is.is ∙ c.field.ensures)),
       simp length-set v.invariant.1,
     )
 
-returns-4 : tie.Need-returns-4 invariant-loop decreases-loop
+returns-4 : tie.Need-returns invariant-loop decreases-loop
 returns-4 c =
-    let e = c.before.before.before in
-    let v = c.before.loop in
-    let (o, count, row) = taken-end e.args.sheet e.args.s.now e.args.from e.args.end e.requires.1 v.row v.at v.count v.invariant.0 c.loop-test.false in
+    let e = c in
+    let v = c.loop-at in
+    let (o, count, row) = taken-end e.args.sheet e.args.s.now e.args.from e.args.end e.requires.1 v.row v.at v.count v.invariant.0 c.loop-at-test.false in
     read_some _ v.row v.invariant.0.numbers v.count o count row
 
 pub read_line_spec : {M : Type 1} → statement M

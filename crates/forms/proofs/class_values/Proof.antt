@@ -5,11 +5,11 @@ use Rattle.forms.proofs.class_values.Tie as tie
 
 returns : tie.Need-returns
 returns c = simp (
-  c.before.before.before.before.before.before.before.before.label.ensures,
-  c.before.before.before.before.before.before.label2.ensures,
-  c.before.before.before.before.label3.ensures,
-  c.before.before.label4.ensures,
-  c.label5.ensures,
+  c.label-a.ensures,
+  c.label-b.ensures,
+  c.label-c.ensures,
+  c.label-d.ensures,
+  c.label-e.ensures,
 )
 
 pub class_values_spec : {M : Type 1} → statement M

@@ -6,7 +6,7 @@ use Rattle.forms.proofs.constants.Statement.{statement}
 use Rattle.forms.proofs.constants.Tie as tie
 
 returns : tie.Need-returns
-returns c = let e = c.before.before.before in rw c.wide.ensures (constants-is e.args.form.now e.requires)
+returns c = let e = c in rw c.wide.ensures (constants-is e.args.form.now e.requires)
 
 pub constants_spec : {M : Type 1} → statement M
 constants_spec = tie.close (tie.spec (λ c. search rules) (λ c κs. search rules) returns)

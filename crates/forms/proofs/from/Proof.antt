@@ -10,5 +10,5 @@ pub from_spec : {M : Type 1} → statement M
 from_spec =
     tie.close
     (tie.spec
-    (λ c κs. let e = c.before in (e.requires.0.long, (located e.args.form.now e.requires.0 e.args.i e.requires.1).low, omega arith))
-    (λ c. let e = c.before.before in rw c.field.ensures (from_is e.args.form.now e.requires.0 e.args.i e.requires.1)))
+    (λ c κs. let e = c in (e.requires.0.long, (located e.args.form.now e.requires.0 e.args.i e.requires.1).low, omega arith))
+    (λ c. let e = c in rw c.field.ensures (from_is e.args.form.now e.requires.0 e.args.i e.requires.1)))

@@ -13,20 +13,20 @@ use borrow.Author.Rules.{rules}
 use Rattle.forms.proofs.guard_at.Statement.{statement}
 use Rattle.forms.proofs.guard_at.Tie as tie
 
-abbrev invariant-loop : tie.invariant-loop
+abbrev invariant-loop : tie.invariant-loop-i
 invariant-loop form row g₀ i₀ g i = (i ≤ 8) × (g ≡ guard_of (map (condition_at form) (present form row i)))
 
-abbrev decreases-loop : tie.decreases-loop
+abbrev decreases-loop : tie.decreases-loop-i
 decreases-loop form row g₀ i₀ g i = 8 - i
 
-loop-holds : tie.Need-loop-init invariant-loop decreases-loop
+loop-holds : tie.Need-loop-i-init invariant-loop decreases-loop
 unfolding padded
 loop-holds c = (omega arith, refl)
 
-with-condition-requires : tie.Need-with-condition-requires invariant-loop decreases-loop
+with-condition-requires : tie.Need-with_condition-g-requires invariant-loop decreases-loop
 with-condition-requires c κs =
-    let l = c.before.loop in
-    let e = c.before.before.before in
+    let l = c.loop-i in
+    let e = c in
     let t = e.args.form.now in (
       omega (arith, e.requires.1),
       e.requires.0,
@@ -34,16 +34,16 @@ with-condition-requires c κs =
       line-passes (condition_at t) t e.args.row (fits_condition 2 5 3) 8 e.requires.2 l.i (omega arith),
     )
 
-loop-again : tie.Need-loop-preserved invariant-loop decreases-loop
+loop-again : tie.Need-loop-i-preserved invariant-loop decreases-loop
 loop-again c =
-    let l = c.before.before.loop in
-    let e = c.before.before.before.before.args in
-    (omega arith, c.with-condition.ensures ∙ ap (λ g. guard_with g e.form.now (e.row + l.i)) l.invariant.1 ∙ guard_more e.form.now e.row l.i (omega arith))
+    let l = c.loop-i in
+    let e = c.args in
+    (omega arith, c.with_condition-g.ensures ∙ ap (λ g. guard_with g e.form.now (e.row + l.i)) l.invariant.1 ∙ guard_more e.form.now e.row l.i (omega arith))
 
 returns : tie.Need-returns invariant-loop decreases-loop
 returns c =
-    let l = c.before.loop in
-    let e = c.before.before.before.args in
+    let l = c.loop-i in
+    let e = c.args in
     let n : l.i ≡ 8 = omega arith in
     l.invariant.1 ∙ ap (λ i. guard_of (map (condition_at e.form.now) (present e.form.now e.row i))) n
 

@@ -11,33 +11,33 @@ use borrow.Author.Rules.{rules}
 use Rattle.forms.proofs.holds.Statement.{statement}
 use Rattle.forms.proofs.holds.Tie as tie
 
-abbrev invariant-loop : tie.invariant-loop
+abbrev invariant-loop : tie.invariant-loop-i
 invariant-loop vals n left equal right i₀ i = (i ≤ n) × (all_from (λ j. holds_at vals (get_or left j 0) (get_or equal j 0) (get_or right j 0)) i (n - i) ≡ all_from (λ j. holds_at vals (get_or left j 0) (get_or equal j 0) (get_or right j 0)) 0 n)
 
-abbrev decreases-loop : tie.decreases-loop
+abbrev decreases-loop : tie.decreases-loop-i
 decreases-loop vals n left equal right i₀ i = n - i
 
-loop-holds : tie.Need-loop-init invariant-loop decreases-loop
+loop-holds : tie.Need-loop-i-init invariant-loop decreases-loop
 loop-holds c = (omega arith, all_start _ _ 0)
 
-condition-holds-requires : tie.Need-condition-holds-requires invariant-loop decreases-loop
+condition-holds-requires : tie.Need-condition_holds-requires invariant-loop decreases-loop
 condition-holds-requires c κs =
-    let e = c.before.before.before.before.before.before in
-    let i = c.before.loop.i in
+    let e = c in
+    let i = c.loop-i.i in
     (e.requires.left-fits i, e.requires.right-fits i)
 
-loop-again : tie.Need-loop-preserved invariant-loop decreases-loop
+loop-again : tie.Need-loop-i-preserved invariant-loop decreases-loop
 loop-again c =
-    let l = c.before.before.before.loop in
-    (omega arith, sym (all_more _ _ l.i (omega arith) (sym c.before.condition-holds.ensures ∙ c.if1.true)) ∙ l.invariant.1)
+    let l = c.loop-i in
+    (omega arith, sym (all_more _ _ l.i (omega arith) (sym c.condition_holds.ensures ∙ c.if-condition_holds.true)) ∙ l.invariant.1)
 
-returns : tie.Need-returns invariant-loop decreases-loop
+returns : tie.Need-returns-else-condition_holds invariant-loop decreases-loop
 returns c =
-    let l = c.before.before.before.loop in
-    sym (all-fails _ _ l.i (omega arith) (sym c.before.condition-holds.ensures ∙ c.if1.false)) ∙ l.invariant.1
+    let l = c.loop-i in
+    sym (all-fails _ _ l.i (omega arith) (sym c.condition_holds.ensures ∙ c.if-condition_holds.false)) ∙ l.invariant.1
 
-returns-2 : tie.Need-returns-2 invariant-loop decreases-loop
-returns-2 c = let l = c.before.loop in sym (all_done _ _ l.i (omega arith)) ∙ l.invariant.1
+returns-2 : tie.Need-returns invariant-loop decreases-loop
+returns-2 c = let l = c.loop-i in sym (all_done _ _ l.i (omega arith)) ∙ l.invariant.1
 
 pub holds_spec : {M : Type 1} → statement M
 holds_spec =

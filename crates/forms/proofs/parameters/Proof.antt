@@ -6,16 +6,16 @@ use Rattle.forms.proofs.Accessors.{parameters_are}
 use Rattle.forms.proofs.parameters.Statement.{statement}
 use Rattle.forms.proofs.parameters.Tie as tie
 
-field-requires : tie.Need-field-requires
-field-requires c κs = let e = c.before in (e.requires.0.long, (located e.args.form.now e.requires.0 e.args.i e.requires.1).low, omega arith)
+field-requires : tie.Need-field-action-requires
+field-requires c κs = let e = c in (e.requires.0.long, (located e.args.form.now e.requires.0 e.args.i e.requires.1).low, omega arith)
 
-action-arity-requires : tie.Need-action-arity-requires
-action-arity-requires c κs = let e = c.before.before in (e.requires.0.long, omega (arith, c.field.ensures, (located e.args.form.now e.requires.0 e.args.i e.requires.1).action.1))
+action-arity-requires : tie.Need-action_arity-requires
+action-arity-requires c κs = let e = c in (e.requires.0.long, omega (arith, c.field-action.ensures, (located e.args.form.now e.requires.0 e.args.i e.requires.1).action.1))
 
 returns : tie.Need-returns
 returns c =
-    let e = c.before.before.before in
-    rw c.action-arity.ensures (parameters_are e.args.form.now e.requires.0 e.args.i e.requires.1 _ c.before.field.ensures)
+    let e = c in
+    rw c.action_arity.ensures (parameters_are e.args.form.now e.requires.0 e.args.i e.requires.1 _ c.field-action.ensures)
 
 pub parameters_spec : {M : Type 1} → statement M
 parameters_spec = tie.close (tie.spec field-requires action-arity-requires returns)

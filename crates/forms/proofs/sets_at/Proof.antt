@@ -13,20 +13,20 @@ use borrow.Author.Rules.{rules}
 use Rattle.forms.proofs.sets_at.Statement.{statement}
 use Rattle.forms.proofs.sets_at.Tie as tie
 
-abbrev invariant-loop : tie.invariant-loop
+abbrev invariant-loop : tie.invariant-loop-i
 invariant-loop form row s₀ i₀ s i = (i ≤ 5) × (s ≡ sets_of (map (assignment_at form) (present form row i)))
 
-abbrev decreases-loop : tie.decreases-loop
+abbrev decreases-loop : tie.decreases-loop-i
 decreases-loop form row s₀ i₀ s i = 5 - i
 
-loop-holds : tie.Need-loop-init invariant-loop decreases-loop
+loop-holds : tie.Need-loop-i-init invariant-loop decreases-loop
 unfolding padded
 loop-holds c = (omega arith, refl)
 
-with-set-requires : tie.Need-with-set-requires invariant-loop decreases-loop
+with-set-requires : tie.Need-with_set-s-requires invariant-loop decreases-loop
 with-set-requires c κs =
-    let l = c.before.loop in
-    let e = c.before.before.before in
+    let l = c.loop-i in
+    let e = c in
     let t = e.args.form.now in (
       omega (arith, e.requires.1),
       e.requires.0,
@@ -34,16 +34,16 @@ with-set-requires c κs =
       line-passes (assignment_at t) t e.args.row (fits_assignment 2 5 3) 5 e.requires.2 l.i (omega arith),
     )
 
-loop-again : tie.Need-loop-preserved invariant-loop decreases-loop
+loop-again : tie.Need-loop-i-preserved invariant-loop decreases-loop
 loop-again c =
-    let l = c.before.before.loop in
-    let e = c.before.before.before.before.args in
-    (omega arith, c.with-set.ensures ∙ ap (λ g. sets_with g e.form.now (e.row + l.i)) l.invariant.1 ∙ sets_more e.form.now e.row l.i (omega arith))
+    let l = c.loop-i in
+    let e = c.args in
+    (omega arith, c.with_set-s.ensures ∙ ap (λ g. sets_with g e.form.now (e.row + l.i)) l.invariant.1 ∙ sets_more e.form.now e.row l.i (omega arith))
 
 returns : tie.Need-returns invariant-loop decreases-loop
 returns c =
-    let l = c.before.loop in
-    let e = c.before.before.before.args in
+    let l = c.loop-i in
+    let e = c.args in
     let n : l.i ≡ 5 = omega arith in
     l.invariant.1 ∙ ap (λ i. sets_of (map (assignment_at e.form.now) (present e.form.now e.row i))) n
 

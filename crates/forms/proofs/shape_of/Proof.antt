@@ -6,8 +6,8 @@ use borrow.Author.Rules.{rules}
 use Rattle.forms.proofs.shape_of.Statement.{statement}
 use Rattle.forms.proofs.shape_of.Tie as tie
 
-returns-15 : tie.Need-returns-15
-returns-15 c = c.shaped15.ensures ∙ sym (no_kind_lem c.before.before.args.kind c.before.match.rest)
+returns-15 : tie.Need-returns-in_default
+returns-15 c = c.shaped-in_default.ensures ∙ sym (no_kind_lem c.args.kind c.in_default.in_default-own.rest)
 
 pub shape_of_spec : {M : Type 1} → statement M
 unfolding shape_of
@@ -29,18 +29,18 @@ shape_of_spec =
     (λ c κs. search rules)
     (λ c κs. search rules)
     (λ c κs. search rules)
-    (λ c. rw c.before.match.keys1 c.shaped.ensures)
-    (λ c. rw c.before.match.keys2 c.shaped2.ensures)
-    (λ c. rw c.before.match.keys3 c.shaped3.ensures)
-    (λ c. rw c.before.match.keys4 c.shaped4.ensures)
-    (λ c. rw c.before.match.keys5 c.shaped5.ensures)
-    (λ c. rw c.before.match.keys6 c.shaped6.ensures)
-    (λ c. rw c.before.match.keys7 c.shaped7.ensures)
-    (λ c. rw c.before.match.keys8 c.shaped8.ensures)
-    (λ c. rw c.before.match.keys9 c.shaped9.ensures)
-    (λ c. rw c.before.match.keys10 c.shaped10.ensures)
-    (λ c. rw c.before.match.keys11 c.shaped11.ensures)
-    (λ c. rw c.before.match.keys12 c.shaped12.ensures)
-    (λ c. rw c.before.match.keys13 c.shaped13.ensures)
-    (λ c. rw c.before.match.keys14 c.shaped14.ensures)
+    (λ c. rw c.in-1.is c.shaped.ensures)
+    (λ c. rw c.in-2.is c.shaped-in-2.ensures)
+    (λ c. rw c.in-3.is c.shaped-in-3.ensures)
+    (λ c. rw c.in-4.is c.shaped-in-4.ensures)
+    (λ c. rw c.in-5.is c.shaped-in-5.ensures)
+    (λ c. rw c.in-6.is c.shaped-in-6.ensures)
+    (λ c. rw c.in-7.is c.shaped-in-7.ensures)
+    (λ c. rw c.in-8.is c.shaped-in-8.ensures)
+    (λ c. rw c.in-9.is c.shaped-in-9.ensures)
+    (λ c. rw c.in-10.is c.shaped-in-10.ensures)
+    (λ c. rw c.in-11.is c.shaped-in-11.ensures)
+    (λ c. rw c.in-12.is c.shaped-in-12.ensures)
+    (λ c. rw c.in-13.is c.shaped-in-13.ensures)
+    (λ c. rw c.in-14.is c.shaped-in-14.ensures)
     returns-15)

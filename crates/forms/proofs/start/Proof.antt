@@ -6,7 +6,7 @@ use Rattle.forms.proofs.start.Statement.{statement}
 use Rattle.forms.proofs.start.Tie as tie
 
 returns : tie.Need-returns
-returns c = let e = c.before.before.before in rw c.wide.ensures (start_is e.args.form.now e.requires)
+returns c = let e = c in rw c.wide.ensures (start_is e.args.form.now e.requires)
 
 pub start_spec : {M : Type 1} → statement M
 start_spec = tie.close (tie.spec (λ c. search rules) (λ c κs. search rules) returns)

@@ -8,16 +8,16 @@ use Rattle.forms.proofs.Forms.{guard-fits, target-few}
 use Rattle.forms.proofs.target_guard.Statement.{statement}
 use Rattle.forms.proofs.target_guard.Tie as tie
 
-guard-at-requires : tie.Need-guard-at-requires
+guard-at-requires : tie.Need-guard_at-requires
 unfolding target_of
-guard-at-requires c κs = let e = c.before in (e.requires.0, omega arith, e.requires.1)
+guard-at-requires c κs = let e = c in (e.requires.0, omega arith, e.requires.1)
 
 returns : tie.Need-returns
 unfolding target_of
 returns c =
-    let e = c.before.before in
+    let e = c in
     let t = e.args.form.now in
-    (c.guard-at.ensures, subst⁻¹ FitsGuard c.guard-at.ensures (guard-fits (target_of t).conditions (target-few t) e.requires.1))
+    (c.guard_at.ensures, subst⁻¹ FitsGuard c.guard_at.ensures (guard-fits (target_of t).conditions (target-few t) e.requires.1))
 
 pub target_guard_spec : {M : Type 1} → statement M
 target_guard_spec = tie.close (tie.spec guard-at-requires returns)

@@ -6,19 +6,19 @@ use borrow.Author.Rules.{rules}
 use Rattle.forms.proofs.with_condition.Statement.{statement}
 use Rattle.forms.proofs.with_condition.Tie as tie
 
-returns : tie.Need-returns
-returns c = let e = c.before.before.before.args in sym (guard_with-none e.g e.form.now e.row c.if1.true)
+returns : tie.Need-returns-then-form-at-eq0
+returns c = let e = c.args in sym (guard_with-none e.g e.form.now e.row c.if-form-at-eq0.true)
 
-slot-requires : tie.Need-slot-requires
-slot-requires c κs = let e = c.before.before.before.before.before.before in (condition_numbers e.args.form.now e.args.row e.requires.3 c.before.before.before.if1.false).0
+slot-requires : tie.Need-slot-l-requires
+slot-requires c κs = let e = c in (condition_numbers e.args.form.now e.args.row e.requires.3 c.if-form-at-eq0.false).0
 
-slot-requires-2 : tie.Need-slot-requires-2
-slot-requires-2 c κs = let e = c.before.before.before.before.before.before.before.before.before.before.before in (condition_numbers e.args.form.now e.args.row e.requires.3 c.before.before.before.before.before.before.before.before.if1.false).1
+slot-requires-2 : tie.Need-slot-r-requires
+slot-requires-2 c κs = let e = c in (condition_numbers e.args.form.now e.args.row e.requires.3 c.if-form-at-eq0.false).1
 
-returns-2 : tie.Need-returns-2
+returns-2 : tie.Need-returns
 returns-2 c =
-    let e = c.before.before.before.before.before.before.before.before.before.before.before.before.before.before.before.before.args in
-    guard_with-line e.g e.form.now e.row c.before.before.before.before.before.before.before.before.before.before.before.before.before.if1.false c.before.before.before.before.before.before.before.before.before.slot.ensures c.before.before.before.before.before.before.before.sign.ensures c.before.before.before.before.slot2.ensures
+    let e = c.args in
+    guard_with-line e.g e.form.now e.row c.if-form-at-eq0.false c.slot-l.ensures c.sign-e.ensures c.slot-r.ensures
 
 pub with_condition_spec : {M : Type 1} → statement M
 with_condition_spec =

@@ -7,22 +7,22 @@ use borrow.Author.Rules.{rules}
 use Rattle.forms.proofs.with_set.Statement.{statement}
 use Rattle.forms.proofs.with_set.Tie as tie
 
-returns : tie.Need-returns
-returns c = let e = c.before.before.before.args in sym (sets_with-none e.s e.form.now e.row c.if1.true)
+returns : tie.Need-returns-then-form-at-eq0
+returns c = let e = c.args in sym (sets_with-none e.s e.form.now e.row c.if-form-at-eq0.true)
 
 cast-register : tie.Need-overflow_cast-register
-cast-register c = let e = c.before.before.before.before.before in omega (arith, (assignment_numbers e.args.form.now e.args.row e.requires.3 c.before.before.if1.false).0)
+cast-register c = let e = c in omega (arith, (assignment_numbers e.args.form.now e.args.row e.requires.3 c.if-form-at-eq0.false).0)
 
-slot-requires : tie.Need-slot-requires
-slot-requires c κs = let e = c.before.before.before.before.before.before.before in (assignment_numbers e.args.form.now e.args.row e.requires.3 c.before.before.before.before.if1.false).1
+slot-requires : tie.Need-slot-from-requires
+slot-requires c κs = let e = c in (assignment_numbers e.args.form.now e.args.row e.requires.3 c.if-form-at-eq0.false).1
 
 add-target : tie.Need-overflow_add-target
-add-target c = let e = c.before.before.before.before.before.before.before.before.before.before in omega (arith, (assignment_numbers e.args.form.now e.args.row e.requires.3 c.before.before.before.before.before.before.before.if1.false).0)
+add-target c = let e = c in omega (arith, (assignment_numbers e.args.form.now e.args.row e.requires.3 c.if-form-at-eq0.false).0)
 
-returns-2 : tie.Need-returns-2
+returns-2 : tie.Need-returns
 returns-2 c =
-    let e = c.before.before.before.before.before.before.before.before.before.before.before.args in
-    sets_with-line e.s e.form.now e.row c.before.before.before.before.before.before.before.before.if1.false c.before.before.before.slot.ensures
+    let e = c.args in
+    sets_with-line e.s e.form.now e.row c.if-form-at-eq0.false c.slot-from.ensures
 
 pub with_set_spec : {M : Type 1} → statement M
 with_set_spec =

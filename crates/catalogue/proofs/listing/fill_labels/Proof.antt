@@ -19,47 +19,47 @@ use Rattle.catalogue.proofs.Listed.{listed-first, listed_small, listed_next}
 use Rattle.catalogue.proofs.listing.fill_labels.Statement.{statement}
 use Rattle.catalogue.proofs.listing.fill_labels.Tie as tie
 
-abbrev invariant-loop : tie.invariant-loop
+abbrev invariant-loop : tie.invariant-loop-k
 invariant-loop r c flat₀ count labels₀ k₀ flat labels k =
     (k ≤ length (lists r c)) × (length flat ≡ length flat₀) × (flat ≡ overlay (label_rows r c) flat₀ (k * 5))
     × (k < length (lists r c) → labels ≡ padded 5 (get_or (lists r c) k []))
 
-abbrev decreases-loop : tie.decreases-loop
+abbrev decreases-loop : tie.decreases-loop-k
 decreases-loop r c flat₀ count labels₀ k₀ flat labels k = count - k
 
-loop-holds : tie.Need-loop-init invariant-loop decreases-loop
-loop-holds c = let e = c.before.before.before in (omega arith, refl, refl, λ h. c.ones.ensures ∙ ap (filled (replicate 5 0) 0 (λ i. 1)) (sub-zero e.args.r) ∙ listed-first e.args.r e.args.c e.requires.0 e.requires.1 h)
+loop-holds : tie.Need-loop-k-init invariant-loop decreases-loop
+loop-holds c = let e = c in (omega arith, refl, refl, λ h. c.ones-labels.ensures ∙ ap (filled (replicate 5 0) 0 (λ i. 1)) (sub-zero e.args.r) ∙ listed-first e.args.r e.args.c e.requires.0 e.requires.1 h)
 
-raise-requires : tie.Need-raise-requires invariant-loop decreases-loop
+raise-requires : tie.Need-raise-next-requires invariant-loop decreases-loop
 raise-requires c κs =
-    let e = c.before.before.before.before.before.before.before.before.before in
-    let l = c.before.before.before.before.before.loop in
-    let k : l.k < length (lists e.args.r e.args.c) = omega (arith, c.before.before.before.before.before.before.before.class-count.ensures) in
+    let e = c in
+    let l = c.loop-k in
+    let k : l.k < length (lists e.args.r e.args.c) = omega (arith, c.class_count-count.ensures) in
     (e.requires.0, rw (l.invariant.3 k) (listed_small e.args.r e.args.c e.requires.0 e.requires.1 l.k k))
 
-loop-again : tie.Need-loop-preserved invariant-loop decreases-loop
+loop-again : tie.Need-loop-k-preserved invariant-loop decreases-loop
 loop-again c =
-    let e = c.before.before.before.before.before.before.before.before.before.before in
-    let l = c.before.before.before.before.before.before.loop in
-    let s = c.before.before.before.store in
+    let e = c in
+    let l = c.loop-k in
+    let s = c.store in
     let r = e.args.r in
     let n = e.args.c in
-    let k : l.k < length (lists r n) = omega (arith, c.before.before.before.before.before.before.before.before.class-count.ensures) in (
+    let k : l.k < length (lists r n) = omega (arith, c.class_count-count.ensures) in (
       omega arith,
-      s.auto.0 ∙ l.invariant.1,
+      s.auto.flat ∙ l.invariant.1,
       s.ensures ∙ rw (l.invariant.2, l.invariant.3 k) (label_rows_more r n e.requires.0 e.args.flat.now l.k k e.requires.2),
       λ h.
-          c.raise.ensures ∙ ap (raised r n) (l.invariant.3 k) ∙ listed_next r n e.requires.0 e.requires.1 l.k (omega arith)
+          c.raise-next.ensures ∙ ap (raised r n) (l.invariant.3 k) ∙ listed_next r n e.requires.0 e.requires.1 l.k (omega arith)
           ∙ ap (λ j. padded 5 (get_or (lists r n) j [])) (sym (add-one l.k)),
     )
 
 returns : tie.Need-returns invariant-loop decreases-loop
 returns c =
-    let e = c.before.before.before.before.before in
-    let l = c.before.loop in
+    let e = c in
+    let l = c.loop-k in
     l.invariant.2
     ∙ overlay_all (label_rows e.args.r e.args.c) e.args.flat.now (l.k * 5)
-    (omega (arith, c.before.before.before.class-count.ensures, label_rows-length e.args.r e.args.c e.requires.0))
+    (omega (arith, c.class_count-count.ensures, label_rows-length e.args.r e.args.c e.requires.0))
 
 pub fill_labels_spec : {M : Type 1} → statement M
 fill_labels_spec =

@@ -8,11 +8,11 @@ use Rattle.catalogue.proofs.listing.raise.Statement.{statement}
 use Rattle.catalogue.proofs.listing.raise.Tie as tie
 
 add-next : tie.Need-overflow_add-next
-add-next c = omega (arith, get_d_le 7 c.before.args.t1 c.rising.result c.before.requires.1)
+add-next c = omega (arith, get_d_le 7 c.args.list c.rising-at.result c.requires.1)
 
 returns : tie.Need-returns
 unfolding raised
-returns c = let a = c.before.before.args in c.ones.ensures ∙ ap (λ p. raised_at a.r p a.t1) c.before.rising.ensures.0
+returns c = let a = c.args in c.ones.ensures ∙ ap (λ p. raised_at a.r p a.list) c.rising-at.ensures.0
 
 pub raise_spec : {M : Type 1} → statement M
 raise_spec =

@@ -8,9 +8,9 @@ use Rattle.catalogue.proofs.matrices.class_matrix.Tie as tie
 
 returns : tie.Need-returns
 returns c =
-    let a = c.before.before.before.before.before.before.args in
-    c.before.before.matrix-of.ensures
-    ∙ rw (marks-take a.c (omega arith), c.before.before.before.before.wide-labels.ensures)
+    let a = c.args in
+    c.matrix_of.ensures
+    ∙ rw (marks-take a.c (omega arith), c.wide_labels.ensures)
 
 pub class_matrix_spec : {M : Type 1} → statement M
 class_matrix_spec =

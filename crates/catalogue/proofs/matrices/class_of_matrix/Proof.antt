@@ -17,40 +17,40 @@ use Rattle.catalogue.proofs.matrices.class_of_matrix.Statement.{statement}
 use Rattle.catalogue.proofs.matrices.class_of_matrix.Tie as tie
 
 -- what the comparison says
-compared : (c : tie.After-same-entries)
-    → let a = c.before.before.before.before.before.before.before.args in
+compared : (c : tie.After-same_entries)
+    → let a = c.args in
     c.same_entries.result ≡ eq_list (matrix (up_from 1 a.c) (valuation_of a.r a.matrix.now)) a.matrix.now
 compared c =
-    let a = c.before.before.before.before.before.before.before.args in
-    let p = c.before.before.before.before.before.before.before.requires in
-    let o = c.before.before.before.matrix-of in
+    let a = c.args in
+    let p = c.requires in
+    let o = c.matrix_of in
     c.same_entries.ensures
     ∙ ap (λ l. eq_list l a.matrix.now)
-    (matrix_front a.r a.c p.0 a.matrix.now c.before.before.before.before.before.valuation-of.result c.before.before.before.before.before.valuation-of.ensures
-    o.new.1.1.1.1.0 (replicate 25 0) p.1 p.2 o.ensures)
+    (matrix_front a.r a.c p.0 a.matrix.now c.valuation_of-contents.result c.valuation_of-contents.ensures
+    o.new.out (replicate 25 0) p.1 p.2 o.ensures)
 
-same-entries-requires : tie.Need-same-entries-requires
+same-entries-requires : tie.Need-same_entries-requires
 same-entries-requires c κs =
-    omega (arith, square_fits c.before.before.before.before.before.before.args.r (omega arith), c.before.before.matrix-of.auto.1.1.1.1.0)
+    omega (arith, square_fits c.args.r (omega arith), c.matrix_of.auto.out)
 
-returns : tie.Need-returns
+returns : tie.Need-returns-then-same_entries
 returns c =
-    let a = c.before.before.before.before.before.before.before.before.before.args in
-    let p = c.before.before.before.before.before.before.before.before.before.requires in
-    let v = c.before.before.before.before.before.before.before.valuation-of in
+    let a = c.args in
+    let p = c.requires in
+    let v = c.valuation_of-contents in
     let u : List ℕ = valuation_of a.r a.matrix.now in
     let same : matrix (up_from 1 a.c) u ≡ a.matrix.now =
-    eq_list→eq (matrix (up_from 1 a.c) u) a.matrix.now (subst⁻¹ T (sym (compared c.before.before) ∙ c.before.if1.true) tt) in
+    eq_list→eq (matrix (up_from 1 a.c) u) a.matrix.now (subst⁻¹ T (sym (compared c.before.before) ∙ c.if-same_entries.true) tt) in
     ap Class (c.class_of.ensures ∙ rw (marks-take a.c p.1, valuation_front a.r a.c p.0 a.matrix.now v.result v.ensures))
     ∙ sym (ap (found a.r a.c) (class-found a.r a.c a.matrix.now u (valuation-length a.r a.matrix.now) same))
 
-returns-2 : tie.Need-returns-2
+returns-2 : tie.Need-returns
 returns-2 c =
-    let a = c.before.before.before.before.before.before.before.before.args in
-    let p = c.before.before.before.before.before.before.before.before.requires in
+    let a = c.args in
+    let p = c.requires in
     let u : List ℕ = valuation_of a.r a.matrix.now in
     sym (ap (found a.r a.c) (class_missing a.r a.c a.matrix.now p.1
-    (λ e. subst T (sym (compared c.before) ∙ c.if1.false) (subst (λ l. T (eq_list l a.matrix.now)) (sym e) (eq_list_refl a.matrix.now)))))
+    (λ e. subst T (sym (compared c.before) ∙ c.if-same_entries.false) (subst (λ l. T (eq_list l a.matrix.now)) (sym e) (eq_list_refl a.matrix.now)))))
 
 pub class_of_matrix_spec : {M : Type 1} → statement M
 class_of_matrix_spec =
@@ -58,7 +58,7 @@ class_of_matrix_spec =
     (tie.spec
     (λ c κs. search rules)
     (λ c. search rules)
-    (λ c κs. let f = square_fits c.before.before.before.args.r (omega arith) in search rules)
+    (λ c κs. let f = square_fits c.args.r (omega arith) in search rules)
     (λ c. search rules)
     same-entries-requires
     (λ c κs. search rules)

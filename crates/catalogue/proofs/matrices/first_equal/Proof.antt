@@ -11,31 +11,31 @@ use Rattle.catalogue.specs.MatrixCells.{is_equal, first_equal}
 use Rattle.catalogue.proofs.matrices.first_equal.Statement.{statement}
 use Rattle.catalogue.proofs.matrices.first_equal.Tie as tie
 
-abbrev invariant-loop : tie.invariant-loop
+abbrev invariant-loop : tie.invariant-loop-j
 invariant-loop matrix at n j₀ j = (j ≤ n) × (first_from (is_equal matrix at) j (n - j) ≡ first_equal matrix at n)
 
-abbrev decreases-loop : tie.decreases-loop
+abbrev decreases-loop : tie.decreases-loop-j
 decreases-loop matrix at n j₀ j = n - j
 
-loop-holds : tie.Need-loop-init invariant-loop decreases-loop
+loop-holds : tie.Need-loop-j-init invariant-loop decreases-loop
 loop-holds c = let a = c.args in (omega arith, first-start (is_equal a.matrix.now a.at) a.n 0)
 
-returns : tie.Need-returns invariant-loop decreases-loop
+returns : tie.Need-returns-then-matrix-at-ne0 invariant-loop decreases-loop
 returns c =
-    let a = c.before.before.before.before.args in
-    let l = c.before.before.before.loop in
-    (sym (first-here (is_equal a.matrix.now a.at) a.n l.j (omega arith) (ap not (ne_eqb _ _ c.if1.true))) ∙ l.invariant.1, omega arith)
+    let a = c.args in
+    let l = c.loop-j in
+    (sym (first-here (is_equal a.matrix.now a.at) a.n l.j (omega arith) (ap not (ne_eqb _ _ c.if-matrix-at-ne0.true))) ∙ l.invariant.1, omega arith)
 
-loop-again : tie.Need-loop-preserved invariant-loop decreases-loop
+loop-again : tie.Need-loop-j-preserved invariant-loop decreases-loop
 loop-again c =
-    let a = c.before.before.before.before.args in
-    let l = c.before.before.before.loop in
-    (omega arith, sym (first-later (is_equal a.matrix.now a.at) a.n l.j (omega arith) (ap not (eq-eqb _ _ c.if1.false))) ∙ l.invariant.1)
+    let a = c.args in
+    let l = c.loop-j in
+    (omega arith, sym (first-later (is_equal a.matrix.now a.at) a.n l.j (omega arith) (ap not (eq-eqb _ _ c.if-matrix-at-ne0.false))) ∙ l.invariant.1)
 
-returns-2 : tie.Need-returns-2 invariant-loop decreases-loop
+returns-2 : tie.Need-returns invariant-loop decreases-loop
 returns-2 c =
-    let a = c.before.before.args in
-    let l = c.before.loop in
+    let a = c.args in
+    let l = c.loop-j in
     (sym (first-none (is_equal a.matrix.now a.at) a.n l.j (omega arith)) ∙ l.invariant.1, omega arith)
 
 pub first_equal_spec : {M : Type 1} → statement M

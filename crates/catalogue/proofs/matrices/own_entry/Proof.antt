@@ -8,21 +8,21 @@ use Rattle.catalogue.proofs.MatrixRows.{own-constant, own_other}
 use Rattle.catalogue.proofs.matrices.own_entry.Statement.{statement}
 use Rattle.catalogue.proofs.matrices.own_entry.Tie as tie
 
-returns : tie.Need-returns
+returns : tie.Need-returns-then-p-c
 returns c =
-    let a = c.before.before.before.args in
-    let two : length a.t1 ≡ 2 = search rules in
-    let p = c.before.position-of.ensures.0 in
-    let l = length-take-le a.c a.t1 (omega arith) in
-    sym (own-constant (take a.c a.t1) a.x (omega arith) ∙ omega arith)
+    let a = c.args in
+    let two : length a.constants ≡ 2 = search rules in
+    let p = c.position_of-p.ensures.0 in
+    let l = length-take-le a.c a.constants (omega arith) in
+    sym (own-constant (take a.c a.constants) a.x (omega arith) ∙ omega arith)
 
-returns-2 : tie.Need-returns-2
+returns-2 : tie.Need-returns
 returns-2 c =
-    let a = c.before.before.before.args in
-    let two : length a.t1 ≡ 2 = search rules in
-    let p = c.before.position-of.ensures.0 in
-    let l = length-take-le a.c a.t1 (omega arith) in
-    sym (own_other (take a.c a.t1) a.x (omega arith))
+    let a = c.args in
+    let two : length a.constants ≡ 2 = search rules in
+    let p = c.position_of-p.ensures.0 in
+    let l = length-take-le a.c a.constants (omega arith) in
+    sym (own_other (take a.c a.constants) a.x (omega arith))
 
 pub own_entry_spec : {M : Type 1} → statement M
 own_entry_spec =

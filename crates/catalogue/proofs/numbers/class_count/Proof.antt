@@ -6,7 +6,7 @@ use Rattle.catalogue.proofs.numbers.class_count.Statement.{statement}
 use Rattle.catalogue.proofs.numbers.class_count.Tie as tie
 
 returns : tie.Need-returns
-returns c = let a = c.before.args in c.count_of.ensures ∙ sym (length-lists a.r a.c)
+returns c = let a = c.args in c.count_of.ensures ∙ sym (length-lists a.r a.c)
 
 pub class_count_spec : {M : Type 1} → statement M
 class_count_spec = tie.close (tie.spec (λ c κs. search rules) (λ c. search rules) returns)

@@ -12,19 +12,19 @@ use Rattle.catalogue.proofs.numbers.class_of.Statement.{statement}
 use Rattle.catalogue.proofs.numbers.class_of.Tie as tie
 
 -- the labels are at the front of the array
-front : (c : tie.After-labels-of)
-    → let a = c.before.args in take a.r c.labels-of.result ≡ labels (take a.c a.constants) (take a.r a.contents)
+front : (c : tie.After-labels_of-list)
+    → let a = c.args in take a.r c.labels_of-list.result ≡ labels (take a.c a.constants) (take a.r a.contents)
 front c =
-    let a = c.before.args in
+    let a = c.args in
     let five : length a.contents ≡ 5 = search rules in
-    ap (take a.r) c.labels-of.ensures
+    ap (take a.r) c.labels_of-list.ensures
     ∙ padded_front (labels (take a.c a.constants) (take a.r a.contents)) a.r
     (labels_length (take a.c a.constants) (take a.r a.contents) ∙ length-take-le a.r a.contents (omega arith)) (omega arith)
 
-class-number-requires : tie.Need-class-number-requires
+class-number-requires : tie.Need-class_number-requires
 class-number-requires c κs =
-    let a = c.before.args in
-    let p = c.before.requires in
+    let a = c.args in
+    let p = c.requires in
     let two : length a.constants ≡ 2 = search rules in (
       p.1,
       p.0,
@@ -34,8 +34,8 @@ class-number-requires c κs =
 
 returns : tie.Need-returns
 returns c =
-    let a = c.before.before.args in
-    c.class-number.ensures ∙ ap (index (lists a.r a.c)) (front c.before)
+    let a = c.args in
+    c.class_number.ensures ∙ ap (index (lists a.r a.c)) (front c.before)
 
 pub class_of_spec : {M : Type 1} → statement M
 class_of_spec = tie.close (tie.spec (λ c κs. search rules) class-number-requires returns)

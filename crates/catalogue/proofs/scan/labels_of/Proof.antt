@@ -10,15 +10,15 @@ use borrow.Author.Rules.{rules}
 use Rattle.catalogue.proofs.scan.labels_of.Statement.{statement}
 use Rattle.catalogue.proofs.scan.labels_of.Tie as tie
 
-labels-of-requires : tie.Need-labels-of-requires
-labels-of-requires c κs = let e = c.before in (constants-tidy e.args.c e.args.constants e.requires.0 c.constants-seen.ensures 12 (omega arith), e.requires.1)
+labels-of-requires : tie.Need-labels_of-requires
+labels-of-requires c κs = let e = c in (constants-tidy e.args.c e.args.constants e.requires.0 c.constants_seen.ensures 12 (omega arith), e.requires.1)
 
 returns : tie.Need-returns
 returns c =
-    let e = c.before.before.before in
-    let s = c.before.before.constants-seen in
+    let e = c in
+    let s = c.constants_seen in
     let a = e.args in
-    labelled-labels 12 s.result (constants-tidy a.c a.constants e.requires.0 s.ensures 12 (omega arith)) (take a.r a.contents) c.before.labels-of.ensures
+    labelled-labels 12 s.result (constants-tidy a.c a.constants e.requires.0 s.ensures 12 (omega arith)) (take a.r a.contents) c.labels_of.ensures
     ∙ ap (λ z. padded 5 (labels z (take a.r a.contents))) (constants-known a.c a.constants e.requires.0 s.ensures)
 
 pub labels_of_spec : {M : Type 1} → statement M

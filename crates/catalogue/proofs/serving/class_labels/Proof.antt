@@ -14,39 +14,39 @@ use Rattle.catalogue.proofs.Narrowed.{serving_length, serving_below, serving_lab
 use Rattle.catalogue.proofs.serving.class_labels.Statement.{statement}
 use Rattle.catalogue.proofs.serving.class_labels.Tie as tie
 
-abbrev invariant-loop : tie.invariant-loop
+abbrev invariant-loop : tie.invariant-loop-i
 invariant-loop table rows r c number n labels₀ i₀ labels i =
     (length table ≡ 3370) × (n < 674) × (length (get_or (lists r c) number []) ≡ r) × Copied (get_or (lists r c) number []) labels i
 
-abbrev decreases-loop : tie.decreases-loop
+abbrev decreases-loop : tie.decreases-loop-i
 decreases-loop table rows r c number n labels₀ i₀ labels i = r - i
 
 -- the number that was read is that of the row that serves
-numbered : (c : tie.After-wide16 invariant-loop decreases-loop)
-    → let a = c.before.before.before.before.args in c.wide16.result ≡ get_or (serving_rows a.r a.c) a.number 0
+numbered : (c : tie.After-wide16-n invariant-loop decreases-loop)
+    → let a = c.args in c.wide16-n.result ≡ get_or (serving_rows a.r a.c) a.number 0
 numbered c =
-    let a = c.before.before.before.before.args in
-    let p = c.before.before.before.before.requires in
-    c.wide16.ensures ∙ begins-entry (serving_rows a.r a.c) a.rows.now a.number p.3 (omega (arith, serving_length a.r a.c p.1 p.2))
+    let a = c.args in
+    let p = c.requires in
+    c.wide16-n.ensures ∙ begins-entry (serving_rows a.r a.c) a.rows.now a.number p.3 (omega (arith, serving_length a.r a.c p.1 p.2))
 
-mul-wide16 : tie.Need-overflow_mul-wide16 invariant-loop decreases-loop
+mul-wide16 : tie.Need-offset_bounds-rows-number invariant-loop decreases-loop
 mul-wide16 c =
-    let a = c.before.before.args in
-    let p = c.before.before.requires in
+    let a = c.args in
+    let p = c.requires in
     let room = begins-length (serving_rows a.r a.c) a.rows.now p.3 in
     let same = serving_length a.r a.c p.1 p.2 in
     search rules
 
-shared-slice-read-wide16 : tie.Need-shared-slice-read-wide16 invariant-loop decreases-loop
+shared-slice-read-wide16 : tie.Need-bounds-rows-number invariant-loop decreases-loop
 shared-slice-read-wide16 c =
-    let a = c.before.before.before.args in
-    let p = c.before.before.before.requires in
+    let a = c.args in
+    let p = c.requires in
     omega (arith, begins-length (serving_rows a.r a.c) a.rows.now p.3, serving_length a.r a.c p.1 p.2)
 
-loop-holds : tie.Need-loop-init invariant-loop decreases-loop
+loop-holds : tie.Need-loop-i-init invariant-loop decreases-loop
 loop-holds c =
-    let a = c.before.before.before.before.args in
-    let p = c.before.before.before.before.requires in
+    let a = c.args in
+    let p = c.requires in
     let len = (lists-legal a.r a.c a.number p.4).1 in (
       ap (λ t. length t) p.0 ∙ catalogue-length,
       rw (numbered c) (serving_below a.r a.c a.number (omega (arith, serving_length a.r a.c p.1 p.2))),
@@ -54,11 +54,11 @@ loop-holds c =
       copied_first (get_or (lists a.r a.c) a.number []) (omega arith),
     )
 
-loop-again : tie.Need-loop-preserved invariant-loop decreases-loop
+loop-again : tie.Need-loop-i-preserved invariant-loop decreases-loop
 loop-again c =
-    let a = c.before.before.before.before.before.before.before.before.args in
-    let p = c.before.before.before.before.before.before.before.before.requires in
-    let l = c.before.before.before.loop in
+    let a = c.args in
+    let p = c.requires in
+    let l = c.loop-i in
     let q = l.invariant in (
       q.0,
       q.1,
@@ -70,8 +70,8 @@ loop-again c =
 
 returns : tie.Need-returns invariant-loop decreases-loop
 returns c =
-    let a = c.before.before.before.before.before.before.args in
-    let l = c.before.loop in
+    let a = c.args in
+    let l = c.loop-i in
     copied_ended (get_or (lists a.r a.c) a.number []) l.labels l.i l.invariant.3 (omega arith)
 
 pub class_labels_spec : {M : Type 1} → statement M

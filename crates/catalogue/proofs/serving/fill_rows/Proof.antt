@@ -13,49 +13,49 @@ use Rattle.catalogue.proofs.Narrowed.{serving_rows_lem, serving_length, Filling,
 use Rattle.catalogue.proofs.serving.fill_rows.Statement.{statement}
 use Rattle.catalogue.proofs.serving.fill_rows.Tie as tie
 
-abbrev invariant-loop : tie.invariant-loop
+abbrev invariant-loop : tie.invariant-loop-n
 invariant-loop table r c rows₀ count₀ n₀ rows count n =
     (length table ≡ 3370)
     × (length rows ≡ length rows₀)
     × (length (serving_rows r c) ≤ length rows₀)
     × Filling (λ m. serves r c (row catalogue m)) 674 (serving_rows r c) rows₀ rows count n
 
-abbrev decreases-loop : tie.decreases-loop
+abbrev decreases-loop : tie.decreases-loop-n
 decreases-loop table r c rows₀ count₀ n₀ rows count n = 674 - n
 
 -- what the test of a row says
-tested : (c : tie.After-row-serves invariant-loop decreases-loop)
-    → let a = c.before.before.before.before.before.args in
-    c.row-serves.result ≡ serves a.r a.c (row catalogue c.before.before.loop.n)
+tested : (c : tie.After-row_serves invariant-loop decreases-loop)
+    → let a = c.args in
+    c.row_serves.result ≡ serves a.r a.c (row catalogue c.loop-n.n)
 tested c =
-    let a = c.before.before.before.before.before.args in
-    c.row-serves.ensures ∙ ap (λ t. serves a.r a.c (row t c.before.before.loop.n)) c.before.before.before.before.before.requires.0
+    let a = c.args in
+    c.row_serves.ensures ∙ ap (λ t. serves a.r a.c (row t c.loop-n.n)) c.requires.0
 
 -- there is room for one number more
-room : (c : tie.Then1 invariant-loop decreases-loop) → c.before.before.before.loop.count < length c.before.before.before.loop.rows
+room : (c : tie.Then-row_serves invariant-loop decreases-loop) → c.loop-n.count < length c.loop-n.rows
 room c =
-    let a = c.before.before.before.before.before.before.args in
-    let l = c.before.before.before.loop in
+    let a = c.args in
+    let l = c.loop-n in
     omega (
       arith,
       filling_room (λ m. serves a.r a.c (row catalogue m)) 674 (serving_rows a.r a.c) a.rows.now l.rows l.count l.n l.invariant.3 (omega arith)
-          (sym (tested c.before) ∙ c.if1.true),
+          (sym (tested c.before) ∙ c.if-row_serves.true),
     )
 
-loop-holds : tie.Need-loop-init invariant-loop decreases-loop
+loop-holds : tie.Need-loop-n-init invariant-loop decreases-loop
 loop-holds c =
-    let a = c.before.before.args in
-    let p = c.before.before.requires in (
+    let a = c.args in
+    let p = c.requires in (
       ap (λ t. length t) p.0 ∙ catalogue-length,
       refl,
       omega (arith, serving_length a.r a.c p.1 p.2),
       filling_first (λ m. serves a.r a.c (row catalogue m)) 674 (serving_rows a.r a.c) a.rows.now (serving_rows_lem a.r a.c),
     )
 
-loop-again : tie.Need-loop-preserved invariant-loop decreases-loop
+loop-again : tie.Need-loop-n-preserved invariant-loop decreases-loop
 loop-again c =
-    let a = c.before.before.before.before.before.before.args in
-    let l = c.before.before.before.loop in
+    let a = c.args in
+    let l = c.loop-n in
     let q = l.invariant in
     let p : ℕ → Bool = λ m. serves a.r a.c (row catalogue m) in
     let all = serving_rows a.r a.c in
@@ -72,12 +72,12 @@ loop-again c =
       q.2,
       rw (w.1, w.2) (filling_passed p 674 all a.rows.now l.rows l.count l.n q.3 (omega arith) (sym (tested c.before) ∙ w.0.left)),
     ))
-    c.if1.branch
+    c.if-row_serves.branch
 
 returns : tie.Need-returns invariant-loop decreases-loop
 returns c =
-    let a = c.before.before.before.before.args in
-    let l = c.before.loop in
+    let a = c.args in
+    let l = c.loop-n in
     filling_ended (λ m. serves a.r a.c (row catalogue m)) 674 (serving_rows a.r a.c) a.rows.now l.rows l.count l.n l.invariant.3 (omega arith)
 
 pub fill_rows_spec : {M : Type 1} → statement M

@@ -11,8 +11,8 @@ unfolding narrow
 narrowed_spec =
     tie.close
     (tie.spec
-    (λ c. rw (le-leb _ _ c.if1.true))
+    (λ c. rw (le-leb _ _ c.if-x-c.true))
     (λ c. search rules)
-    (λ c. rw (lt-leb _ _ c.before.if1.false) (omega arith))
+    (λ c. rw (lt-leb _ _ c.if-x-c.false) (omega arith))
     (λ c. search rules)
-    (λ c. rw (lt-leb _ _ c.before.if1.false)))
+    (λ c. rw (lt-leb _ _ c.if-x-c.false)))

@@ -19,40 +19,40 @@ use Rattle.catalogue.proofs.serving.row_serves.Tie as tie
 abbrev label : List ℕ → ℕ → ℕ → ℕ → ℕ → Bool
 label table n r c i = serves_label (ltb i r) c (get_or (row table n) i 0)
 
-abbrev invariant-loop : tie.invariant-loop
+abbrev invariant-loop : tie.invariant-loop-i
 invariant-loop table n r c i₀ i = (i ≤ 5) × (all_from (label table n r c) i (5 - i) ≡ serves r c (row table n))
 
-abbrev decreases-loop : tie.decreases-loop
+abbrev decreases-loop : tie.decreases-loop-i
 decreases-loop table n r c i₀ i = 5 - i
 
 -- what the test of a label says
-tested : (c : tie.After-label-serves invariant-loop decreases-loop)
-    → let a = c.before.before.before.before.before.args in label a.table.now a.n a.r a.c c.before.before.before.loop.i ≡ c.label-serves.result
+tested : (c : tie.After-label_serves invariant-loop decreases-loop)
+    → let a = c.args in label a.table.now a.n a.r a.c c.loop-i.i ≡ c.label_serves.result
 tested c =
-    let a = c.before.before.before.before.before.args in
-    let l = c.before.before.before.loop in
-    ap (serves_label (ltb l.i a.r) a.c) (row-entry a.table.now 5 a.n l.i (omega arith)) ∙ sym c.label-serves.ensures
+    let a = c.args in
+    let l = c.loop-i in
+    ap (serves_label (ltb l.i a.r) a.c) (row-entry a.table.now 5 a.n l.i (omega arith)) ∙ sym c.label_serves.ensures
 
-loop-holds : tie.Need-loop-init invariant-loop decreases-loop
+loop-holds : tie.Need-loop-i-init invariant-loop decreases-loop
 unfolding serves
-loop-holds c = let a = c.before.args in (omega arith, all_start (label a.table.now a.n a.r a.c) 5 0)
+loop-holds c = let a = c.args in (omega arith, all_start (label a.table.now a.n a.r a.c) 5 0)
 
-returns : tie.Need-returns invariant-loop decreases-loop
+returns : tie.Need-returns-then-not-label_serves invariant-loop decreases-loop
 returns c =
-    let a = c.before.before.before.before.before.before.args in
-    let l = c.before.before.before.before.loop in
-    sym (all-fails (label a.table.now a.n a.r a.c) 5 l.i (omega arith) (tested c.before ∙ not-true _ c.if1.true)) ∙ l.invariant.1
+    let a = c.args in
+    let l = c.loop-i in
+    sym (all-fails (label a.table.now a.n a.r a.c) 5 l.i (omega arith) (tested c.before ∙ not-true _ c.if-not-label_serves.true)) ∙ l.invariant.1
 
-loop-again : tie.Need-loop-preserved invariant-loop decreases-loop
+loop-again : tie.Need-loop-i-preserved invariant-loop decreases-loop
 loop-again c =
-    let a = c.before.before.before.before.before.before.args in
-    let l = c.before.before.before.before.loop in
-    (omega arith, sym (all_more (label a.table.now a.n a.r a.c) 5 l.i (omega arith) (tested c.before ∙ not-false _ c.if1.false)) ∙ l.invariant.1)
+    let a = c.args in
+    let l = c.loop-i in
+    (omega arith, sym (all_more (label a.table.now a.n a.r a.c) 5 l.i (omega arith) (tested c.before ∙ not-false _ c.if-not-label_serves.false)) ∙ l.invariant.1)
 
-returns-2 : tie.Need-returns-2 invariant-loop decreases-loop
+returns-2 : tie.Need-returns invariant-loop decreases-loop
 returns-2 c =
-    let a = c.before.before.before.args in
-    let l = c.before.loop in
+    let a = c.args in
+    let l = c.loop-i in
     sym (all_done (label a.table.now a.n a.r a.c) 5 l.i (omega arith)) ∙ l.invariant.1
 
 pub row_serves_spec : {M : Type 1} → statement M

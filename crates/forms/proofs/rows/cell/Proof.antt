@@ -5,8 +5,8 @@ use mathlib.Core.Path.{sym}
 use Rattle.forms.proofs.rows.cell.Statement.{statement}
 use Rattle.forms.proofs.rows.cell.Tie as tie
 
-returns-2 : tie.Need-returns-2
-returns-2 c = sym (get_or-eq_default c.before.args.form.now 0 c.if1.false)
+returns-2 : tie.Need-returns
+returns-2 c = sym (get_or-eq_default c.args.form.now 0 c.if-i-form.false)
 
 pub cell_spec : {M : Type 1} → statement M
 cell_spec =

@@ -11,9 +11,9 @@ use Rattle.forms.proofs.rows.put_row.Tie as tie
 returns : tie.Need-returns
 unfolding put
 returns c =
-    let a = c.before.before.before.before.before.before.args in
-    let e : length a.t3 ≡ 6 = search rules in
-    c.before.before.store-all.ensures ∙ ap (filled a.form.now (6 * a.row) (λ i. get_or a.t3 i 0)) e
+    let a = c.args in
+    let e : length a.f ≡ 6 = search rules in
+    c.store_all.ensures ∙ ap (filled a.form.now (6 * a.row) (λ i. get_or a.f i 0)) e
 
 pub put_row_spec : {M : Type 1} → statement M
 put_row_spec =
