@@ -46,7 +46,7 @@ module _ (cs : List ℕ) where
   -- an entry from the one on the diagonal
   pub cells_own : (x : ℕ) (v : List ℕ) → map (λ y. cond (eqb x y) (cell cs x x) 0) v ≡ map (cell cs x) v
   cells_own x [] = refl
-  cells_own x (y ∷ v) = rw (eq-eqb x x refl) (cc (rw (eq-eqb x x refl) at (cells_own x v)))
+  cells_own x (y ∷ v) = ap₂ ◌∷◌ (rw (eq-eqb x x refl)) (cells_own x v)
 
   -- an entry is 0 where the two differ
   cell-equal : (x y : ℕ) → not (eqb (cell cs x y) 0) ≡ eqb y x

@@ -13,6 +13,7 @@ use lib.Seq.{paste, paste-zero, length-take-le}
 use Rattle.catalogue.proofs.Copying.{paste-next}
 use Rattle.catalogue.proofs.MatrixRows.{cells_entry}
 use Rattle.catalogue.proofs.matrices.fill_row.Statement.{statement}
+use Rattle.catalogue.proofs.matrices.fill_row.Lts.{then-contents-j, else-contents-j}
 use Rattle.catalogue.proofs.matrices.fill_row.Tie as tie
 
 abbrev invariant-loop : tie.invariant-loop-j
@@ -38,9 +39,10 @@ loop-again c =
       omega arith,
       simp length-set l.invariant.2,
       rw l.invariant.3 (paste-next a.out.now a.at s l.j c.if-contents-j.out (omega arith) (omega arith)
-          (⊎_elim (λ w. e ∙ rw (eq-eqb a.x (get_or a.contents l.j 0) (sym w.0.taken)) (sym w.1))
-          (λ w. e ∙ rw (ne_eqb a.x (get_or a.contents l.j 0) (λ q. w.0.left (sym q))) (sym w.1))
-          c.if-contents-j.branch)),
+          (elim c.if-contents-j.branch [
+          then-contents-j w ↦ e ∙ rw (eq-eqb a.x (get_or a.contents l.j 0) (sym w.if-contents-j.true)) (sym w.out-is)
+          | else-contents-j w ↦ e ∙ rw (ne_eqb a.x (get_or a.contents l.j 0) (λ q. w.if-contents-j.false (sym q))) (sym w.out-is)
+          ])),
     )
 
 returns : tie.Need-returns invariant-loop decreases-loop

@@ -11,6 +11,7 @@ use Rattle.catalogue.specs.Serving.{serves, serving_rows}
 use Rattle.catalogue.proofs.Complete.{catalogue-length}
 use Rattle.catalogue.proofs.Narrowed.{serving_rows_lem, serving_length, Filling, filling_first, filling_room, filling_kept, filling_passed, filling_ended}
 use Rattle.catalogue.proofs.serving.fill_rows.Statement.{statement}
+use Rattle.catalogue.proofs.serving.fill_rows.Lts.{then-row_serves, else-row_serves}
 use Rattle.catalogue.proofs.serving.fill_rows.Tie as tie
 
 abbrev invariant-loop : tie.invariant-loop-n
@@ -59,20 +60,20 @@ loop-again c =
     let q = l.invariant in
     let p : ℕ → Bool = λ m. serves a.r a.c (row catalogue m) in
     let all = serving_rows a.r a.c in
-    ⊎_elim
-    (λ w. (
+    elim c.if-row_serves.branch [
+    then-row_serves w ↦ (
       q.0,
-      rw w.1 (simp length-set q.1),
+      rw w.rows-is (simp length-set q.1),
       q.2,
-      rw (w.1, w.2) (filling_kept p 674 all a.rows.now l.rows l.count l.n q.3 (omega arith) (sym (tested c.before) ∙ w.0.taken) q.2),
-    ))
-    (λ w. (
+      rw (w.rows-is, w.count-is) (filling_kept p 674 all a.rows.now l.rows l.count l.n q.3 (omega arith) (sym (tested c.before) ∙ w.if-row_serves.true) q.2),
+    )
+    | else-row_serves w ↦ (
       q.0,
-      rw w.1 q.1,
+      rw w.rows-is q.1,
       q.2,
-      rw (w.1, w.2) (filling_passed p 674 all a.rows.now l.rows l.count l.n q.3 (omega arith) (sym (tested c.before) ∙ w.0.left)),
-    ))
-    c.if-row_serves.branch
+      rw (w.rows-is, w.count-is) (filling_passed p 674 all a.rows.now l.rows l.count l.n q.3 (omega arith) (sym (tested c.before) ∙ w.if-row_serves.false)),
+    )
+    ]
 
 returns : tie.Need-returns invariant-loop decreases-loop
 returns c =

@@ -41,13 +41,13 @@ returns : tie.Need-returns-then-not-label_serves invariant-loop decreases-loop
 returns c =
     let a = c.args in
     let l = c.loop-i in
-    sym (all-fails (label a.table.now a.n a.r a.c) 5 l.i (omega arith) (tested c.before ∙ not-true _ c.if-not-label_serves.true)) ∙ l.invariant.1
+    sym (all-fails (label a.table.now a.n a.r a.c) 5 l.i (omega arith) (tested c.before ∙ c.if-not-label_serves.true)) ∙ l.invariant.1
 
 loop-again : tie.Need-loop-i-preserved invariant-loop decreases-loop
 loop-again c =
     let a = c.args in
     let l = c.loop-i in
-    (omega arith, sym (all_more (label a.table.now a.n a.r a.c) 5 l.i (omega arith) (tested c.before ∙ not-false _ c.if-not-label_serves.false)) ∙ l.invariant.1)
+    (omega arith, sym (all_more (label a.table.now a.n a.r a.c) 5 l.i (omega arith) (tested c.before ∙ c.if-not-label_serves.false)) ∙ l.invariant.1)
 
 returns-2 : tie.Need-returns invariant-loop decreases-loop
 returns-2 c =
