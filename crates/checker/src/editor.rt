@@ -90,8 +90,7 @@ fn ask_code(notation: Notation, table: &[u8], question: &[u8]) -> u32
 }
 
 // Table and target: 1 reached, 0 never, or 100 plus the refusal's number.
-#[unsafe(no_mangle)]
-pub extern "C" fn maceplateau_reach(table: &[u8], target: &[u8]) -> u32
+pub fn maceplateau_reach(table: &[u8], target: &[u8]) -> u32
     ensures { (result ≡ reach_code (reach_reply (target_files table.now target.now)))
         × ReachCodeMeans table.now target.now result }
 {
@@ -99,8 +98,7 @@ pub extern "C" fn maceplateau_reach(table: &[u8], target: &[u8]) -> u32
 }
 
 // Table and question, a file of rows: 1 yes, 0 no, or 100 plus the refusal's number.
-#[unsafe(no_mangle)]
-pub extern "C" fn maceplateau_ask(table: &[u8], question: &[u8]) -> u32
+pub fn maceplateau_ask(table: &[u8], question: &[u8]) -> u32
     ensures { (result ≡ ask_code (ask_reply (question_files Rows table.now question.now)))
         × AskCodeMeans Rows table.now question.now result }
 {
@@ -108,8 +106,7 @@ pub extern "C" fn maceplateau_ask(table: &[u8], question: &[u8]) -> u32
 }
 
 // The same for a question that is a line of text.
-#[unsafe(no_mangle)]
-pub extern "C" fn maceplateau_ask_text(table: &[u8], text: &[u8]) -> u32
+pub fn maceplateau_ask_text(table: &[u8], text: &[u8]) -> u32
     ensures { (result ≡ ask_code (ask_reply (question_files Text table.now text.now)))
         × AskCodeMeans Text table.now text.now result }
 {

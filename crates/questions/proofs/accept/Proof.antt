@@ -4,7 +4,7 @@ use Rattle.questions.proofs.accept.Statement.{statement}
 use Rattle.questions.proofs.accept.Tie as tie
 
 returns : tie.Need-returns
-returns c = simp (c.before.before.put-question-row.ensures, c.before.before.before.before.narrow3.ensures, c.before.before.before.before.before.narrow2.ensures, c.before.before.before.before.before.before.narrow.ensures)
+returns c = simp (c.put_question_row.ensures, c.narrow-b.ensures, c.narrow-a.ensures, c.narrow-k.ensures)
 
 pub accept_spec : {M : Type 1} → statement M
 accept_spec =

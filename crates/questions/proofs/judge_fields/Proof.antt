@@ -5,13 +5,13 @@ use Rattle.questions.specs.QuestionRules.{judge_fields}
 use Rattle.questions.proofs.judge_fields.Statement.{statement}
 use Rattle.questions.proofs.judge_fields.Tie as tie
 
-returns : tie.Need-returns
+returns : tie.Need-returns-then-count-eq3
 unfolding judge_fields
-returns c = simp (eq-eqb _ _ c.before.if1.true) c.judge-numbers.ensures
+returns c = simp (eq-eqb _ _ c.if-count-eq3.true) c.judge_numbers.ensures
 
-returns-2 : tie.Need-returns-2
+returns-2 : tie.Need-returns
 unfolding judge_fields
-returns-2 c = simp (ne_eqb _ _ c.if1.false)
+returns-2 c = simp (ne_eqb _ _ c.if-count-eq3.false)
 
 pub judge_fields_spec : {M : Type 1} → statement M
 judge_fields_spec =

@@ -3,4 +3,4 @@ use Rattle.questions.proofs.judge_number.Statement.{statement}
 use Rattle.questions.proofs.judge_number.Tie as tie
 
 pub judge_number_spec : {M : Type 1} → statement M
-judge_number_spec = tie.close (tie.spec (λ c. simp c.if1.true) (λ c. simp c.if1.false))
+judge_number_spec = tie.close (tie.spec (λ c. simp c.if-x-most.true) (λ c. simp c.if-x-most.false))

@@ -7,7 +7,7 @@ use Rattle.reader.proofs.advanced.Tie as tie
 
 returns : tie.Need-returns
 unfolding advance
-returns c = simp (c.pick13.ensures, c.before.pick12.ensures, c.before.before.pick11.ensures, c.before.before.before.pick10.ensures, c.before.before.before.before.before.pick9.ensures, c.before.before.before.before.before.before.pick8.ensures, c.before.before.before.before.before.before.before.before.pick7.ensures, c.before.before.before.before.before.before.before.before.before.before.pick6.ensures, c.before.before.before.before.before.before.before.before.before.before.before.before.pick5.ensures, c.before.before.before.before.before.before.before.before.before.before.before.before.before.pick4.ensures, c.before.before.before.before.before.before.before.before.before.before.before.before.before.before.pick3.ensures, c.before.before.before.before.before.before.before.before.before.before.before.before.before.before.before.pick2.ensures, c.before.before.before.before.before.before.before.before.before.before.before.before.before.before.before.before.pick.ensures)
+returns c = simp (c.pick-13.ensures, c.pick-12.ensures, c.pick-11.ensures, c.pick-10.ensures, c.pick-9.ensures, c.pick-8.ensures, c.pick-7.ensures, c.pick-6.ensures, c.pick-5.ensures, c.pick-4.ensures, c.pick-3.ensures, c.pick-2.ensures, c.pick.ensures)
 
 pub advanced_spec : {M : Type 1} → statement M
 advanced_spec =
@@ -31,7 +31,7 @@ advanced_spec =
     (λ c. search rules)
     (λ c κs. search rules)
     (λ c κs. search rules)
-    (λ c. omega (arith, c.before.before.before.before.before.before.before.before.before.before.before.before.before.requires.conds_small))
+    (λ c. omega (arith, c.requires.conds_small))
     (λ c κs. search rules)
     (λ c κs. search rules)
     (λ c κs. search rules)

@@ -14,7 +14,7 @@ use Rattle.reader.proofs.are_issued.Tie as tie
 
 returns : tie.Need-returns
 returns c =
-    let f = c.args.t1 in
+    let f = c.args.f in
     let in32 : ℕ → Bool = λ i. leb (get_or f i 0) largest in
     all_six (in32 0) (in32 1) (in32 2) (in32 3) (in32 4) (in32 5) ∙ ap (all_of (λ v. leb v largest)) (six_numbers f (omega arith))
 

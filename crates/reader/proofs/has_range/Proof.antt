@@ -6,4 +6,4 @@ use Rattle.reader.proofs.has_range.Tie as tie
 
 pub has_range_spec : {M : Type 1} → statement M
 unfolding in_range
-has_range_spec = tie.close (tie.spec (λ c κs. search rules) (λ c κs. search rules) (λ c. simp (c.are-fit.ensures, c.before.are-issued.ensures)))
+has_range_spec = tie.close (tie.spec (λ c κs. search rules) (λ c κs. search rules) (λ c. simp (c.are_fit.ensures, c.are_issued.ensures)))

@@ -6,7 +6,7 @@ use Rattle.reader.proofs.has_term.Tie as tie
 
 returns : tie.Need-returns
 unfolding has_term
-returns c = simp (c.in-count3.ensures, c.before.in-count2.ensures, c.before.before.in_count.ensures)
+returns c = simp (c.in_count-3.ensures, c.in_count-2.ensures, c.in_count.ensures)
 
 pub has_term_spec : {M : Type 1} → statement M
 has_term_spec =

@@ -7,11 +7,11 @@ use Rattle.reader.specs.TableRules.{judge_line}
 use Rattle.reader.proofs.judge_line.Statement.{statement}
 use Rattle.reader.proofs.judge_line.Tie as tie
 
-returns : tie.Need-returns
-returns c = let a = c.before.before.before.before.args in c.judge-fields.ensures ∙ ap (λ (l : Line). judge_read (judge_line a.p) l a.f) (sym c.before.before.l.given.1)
+returns : tie.Need-returns-in-Fields
+returns c = let a = c.args in c.judge_fields.ensures ∙ ap (λ (l : Line). judge_read (judge_line a.p) l a.f) (sym c.in-Fields.is)
 
-returns-2 : tie.Need-returns-2
-returns-2 c = let a = c.before.before.args in ap (λ (l : Line). judge_read (judge_line a.p) l a.f) (sym c.enum_told.given.1)
+returns-2 : tie.Need-returns-in-Spoilt
+returns-2 c = let a = c.args in ap (λ (l : Line). judge_read (judge_line a.p) l a.f) (sym c.in-Spoilt.is)
 
 pub judge_line_spec : {M : Type 1} → statement M
 judge_line_spec = tie.close (tie.spec (λ c. search rules) (λ c κs. search rules) (λ c. search rules) returns returns-2)

@@ -11,12 +11,12 @@ unfolding judge_values
 judge_values_spec =
     tie.close
     (tie.spec
-    (λ c. simp c.if1.true)
+    (λ c. simp c.if-k-p.true)
     (λ c κs. search rules)
     (λ c. search rules)
     (λ c κs. search rules)
-    (λ c. simp (c.before.before.before.before.before.before.before.if1.false, sym c.before.before.before.before.before.before.has-range.ensures ∙ c.before.before.before.before.before.if2.true, ← c.before.before.before.before.at_most.ensures, c.if3.true))
-    (λ c. simp (c.before.before.before.before.before.before.before.if1.false, sym c.before.before.before.before.before.before.has-range.ensures ∙ c.before.before.before.before.before.if2.true, ← c.before.before.before.before.at_most.ensures, c.if3.false))
+    (λ c. simp (c.if-k-p.false, sym c.has_range.ensures ∙ c.if-has_range.true, ← c.at_most-behind.ensures, c.if-not-k-p.true))
+    (λ c. simp (c.if-k-p.false, sym c.has_range.ensures ∙ c.if-has_range.true, ← c.at_most-behind.ensures, c.if-not-k-p.false))
     (λ c. search rules)
-    (λ c. simp (c.before.before.before.if1.false, sym c.before.before.has-range.ensures ∙ c.before.if2.false, eq-eqb _ _ c.if4.true))
-    (λ c. simp (c.before.before.before.if1.false, sym c.before.before.has-range.ensures ∙ c.before.if2.false, ne_eqb _ _ c.if4.false)))
+    (λ c. simp (c.if-k-p.false, sym c.has_range.ensures ∙ c.if-has_range.false, eq-eqb _ _ c.if-f-eq1.true))
+    (λ c. simp (c.if-k-p.false, sym c.has_range.ensures ∙ c.if-has_range.false, ne_eqb _ _ c.if-f-eq1.false)))

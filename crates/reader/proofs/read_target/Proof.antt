@@ -4,7 +4,7 @@ use Rattle.reader.proofs.read_target.Statement.{statement}
 use Rattle.reader.proofs.read_target.Tie as tie
 
 returns : tie.Need-returns
-returns c = simp (← c.before.before.cell3.ensures, ← c.before.before.before.cell2.ensures, ← c.before.before.before.before.cell.ensures) c.read-file.ensures
+returns c = simp (← c.cell-3.ensures, ← c.cell-2.ensures, ← c.cell.ensures) c.read_file.ensures
 
 pub read_target_spec : {M : Type 1} → statement M
 read_target_spec =

@@ -12,24 +12,24 @@ use Rattle.reader.proofs.row_of.Tie as tie
 
 returns : tie.Need-returns
 returns c =
-    let a = c.before.before.before.before.before.before.args in
-    simp (c.narrow6.ensures, c.before.narrow5.ensures, c.before.before.narrow4.ensures, c.before.before.before.narrow3.ensures, c.before.before.before.before.narrow2.ensures, c.before.before.before.before.before.narrow.ensures)
-    (six_numbers a.t1 (omega arith))
+    let a = c.args in
+    simp (c.narrow-6.ensures, c.narrow-5.ensures, c.narrow-4.ensures, c.narrow-3.ensures, c.narrow-2.ensures, c.narrow.ensures)
+    (six_numbers a.f (omega arith))
 
 pub row_of_spec : {M : Type 1} → statement M
 row_of_spec =
     tie.close
     (tie.spec
     (λ c. search rules)
-    (λ c κs. get_d_le largest c.args.t1 0 c.requires)
+    (λ c κs. get_d_le largest c.args.f 0 c.requires)
     (λ c. search rules)
-    (λ c κs. get_d_le largest c.before.args.t1 1 c.before.requires)
+    (λ c κs. get_d_le largest c.args.f 1 c.requires)
     (λ c. search rules)
-    (λ c κs. get_d_le largest c.before.before.args.t1 2 c.before.before.requires)
+    (λ c κs. get_d_le largest c.args.f 2 c.requires)
     (λ c. search rules)
-    (λ c κs. get_d_le largest c.before.before.before.args.t1 3 c.before.before.before.requires)
+    (λ c κs. get_d_le largest c.args.f 3 c.requires)
     (λ c. search rules)
-    (λ c κs. get_d_le largest c.before.before.before.before.args.t1 4 c.before.before.before.before.requires)
+    (λ c κs. get_d_le largest c.args.f 4 c.requires)
     (λ c. search rules)
-    (λ c κs. get_d_le largest c.before.before.before.before.before.args.t1 5 c.before.before.before.before.before.requires)
+    (λ c κs. get_d_le largest c.args.f 5 c.requires)
     returns)
