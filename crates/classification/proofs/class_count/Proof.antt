@@ -14,20 +14,20 @@ use borrow.Author.Rules.{rules}
 use Rattle.classification.proofs.class_count.Statement.{statement}
 use Rattle.classification.proofs.class_count.Tie as tie
 
-class-count-requires : tie.Need-class-count-requires
+class-count-requires : tie.Need-class_count-requires
 class-count-requires c κs =
-    let a = c.before.before.before.args in
-    (counts_pass a.registers a.constants true (told-done _ _ c.before.before.test-counts.ensures c.enum_told.given.1)).1
+    let a = c.args in
+    (counts_pass a.registers a.constants true (told-done _ _ c.test_counts-tests.ensures c.in-Done.is)).1
 
-returns : tie.Need-returns
+returns : tie.Need-returns-in-Refused
 returns c =
-    let a = c.before.before.before.before.args in
-    number_promised (CountMeans a.registers a.constants) (class_count_for a.registers a.constants) (count-means a.registers a.constants) (refused _) (told-refused (test_counts true a.registers a.constants) _ _ c.before.before.before.test-counts.ensures _ c.before.tests.given.1)
+    let a = c.args in
+    number_promised (CountMeans a.registers a.constants) (class_count_for a.registers a.constants) (count-means a.registers a.constants) (refused _) (told-refused (test_counts true a.registers a.constants) _ _ c.test_counts-tests.ensures _ c.in-Refused.is)
 
-returns-2 : tie.Need-returns-2
+returns-2 : tie.Need-returns-in-Done
 returns-2 c =
-    let a = c.before.before.before.before.args in
-    number_promised (CountMeans a.registers a.constants) (class_count_for a.registers a.constants) (count-means a.registers a.constants) (accepted _) (told-next (test_counts true a.registers a.constants) (λ ok. accepted (length (lists a.registers a.constants))) _ c.before.before.before.test-counts.ensures c.before.enum_told.given.1 ∙ sym (ap accepted c.class-count.ensures))
+    let a = c.args in
+    number_promised (CountMeans a.registers a.constants) (class_count_for a.registers a.constants) (count-means a.registers a.constants) (accepted _) (told-next (test_counts true a.registers a.constants) (λ ok. accepted (length (lists a.registers a.constants))) _ c.test_counts-tests.ensures c.in-Done.is ∙ sym (ap accepted c.class_count.ensures))
 
 pub class_count_spec : {M : Type 1} → statement M
 class_count_spec =

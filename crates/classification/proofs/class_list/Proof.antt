@@ -7,13 +7,13 @@ use Rattle.classes.proofs.Catalogue.{few-lists}
 use Rattle.classification.proofs.class_list.Statement.{statement}
 use Rattle.classification.proofs.class_list.Tie as tie
 
-fill-rows-requires : tie.Need-fill-rows-requires
-fill-rows-requires c κs = let e = c.before.before.before in (c.before.before.table.ensures, e.requires.0, e.requires.1, few-lists e.args.r e.args.c e.requires.0 e.requires.1)
+fill-rows-requires : tie.Need-fill_rows-requires
+fill-rows-requires c κs = let e = c in (c.table-table.ensures, e.requires.0, e.requires.1, few-lists e.args.r e.args.c e.requires.0 e.requires.1)
 
-class-labels-requires : tie.Need-class-labels-requires
+class-labels-requires : tie.Need-class_labels-requires
 class-labels-requires c κs =
-    let e = c.before.before.before.before.before.before.before in
-    (c.before.before.before.before.before.before.table.ensures, e.requires.0, e.requires.1, rw c.before.before.before.fill-rows.ensures (written-begins (serving_rows e.args.r e.args.c) _), e.requires.2)
+    let e = c in
+    (c.table-table.ensures, e.requires.0, e.requires.1, rw c.fill_rows.ensures (written-begins (serving_rows e.args.r e.args.c) _), e.requires.2)
 
 pub class_list_spec : {M : Type 1} → statement M
 class_list_spec =

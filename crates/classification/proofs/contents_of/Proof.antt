@@ -9,48 +9,48 @@ use borrow.Author.Rules.{rules}
 use Rattle.classification.proofs.contents_of.Statement.{statement}
 use Rattle.classification.proofs.contents_of.Tie as tie
 
-class-count-requires : tie.Need-class-count-requires
+class-count-requires : tie.Need-class_count-count-requires
 class-count-requires c κs =
-    let a = c.before.before.before.before.before.args in
-    let (q, l, w) = contents-taken a.registers a.constants.now a.class a.out.now _ c.before.before.test-lists.ensures c.enum_told.given.1 in
+    let a = c.args in
+    let (q, l, w) = contents-taken a.registers a.constants.now a.class a.out.now _ c.test_lists-tests.ensures c.in-Done.is in
     (q, l)
 
-returns : tie.Need-returns
+returns : tie.Need-returns-then-count-class
 returns c =
-    let a = c.before.before.before.before.before.before.before.before.args in
-    contents_out_of_range a.registers a.constants.now a.class a.out.now _ c.before.before.before.before.before.test-lists.ensures c.before.before.before.enum_told.given.1 (omega (arith, c.before.if1.true, c.before.before.class-count.ensures)) _ c.refusal.ensures
+    let a = c.args in
+    contents_out_of_range a.registers a.constants.now a.class a.out.now _ c.test_lists-tests.ensures c.in-Done.is (omega (arith, c.if-count-class.true, c.class_count-count.ensures)) _ c.refusal.ensures
 
-class-list-requires : tie.Need-class-list-requires
+class-list-requires : tie.Need-class_list-labels-requires
 class-list-requires c κs =
-    let a = c.before.before.before.before.before.before.before.args in
-    let (q, l, w) = contents-taken a.registers a.constants.now a.class a.out.now _ c.before.before.before.before.test-lists.ensures c.before.before.enum_told.given.1 in
-    (q, l, omega (arith, c.if1.false, c.before.class-count.ensures))
+    let a = c.args in
+    let (q, l, w) = contents-taken a.registers a.constants.now a.class a.out.now _ c.test_lists-tests.ensures c.in-Done.is in
+    (q, l, omega (arith, c.if-count-class.false, c.class_count-count.ensures))
 
-pair-requires : tie.Need-pair-requires
-pair-requires c κs = let a = c.before.before.before.before.before.before.before.before.args in (contents-taken a.registers a.constants.now a.class a.out.now _ c.before.before.before.before.before.test-lists.ensures c.before.before.before.enum_told.given.1).1
+pair-requires : tie.Need-pair-cs-requires
+pair-requires c κs = let a = c.args in (contents-taken a.registers a.constants.now a.class a.out.now _ c.test_lists-tests.ensures c.in-Done.is).1
 
-contents-of-requires : tie.Need-contents-of-requires
+contents-of-requires : tie.Need-contents_of-list-requires
 contents-of-requires c κs =
-    let a = c.before.before.before.before.before.before.before.before.before.args in
-    let (q, l, w) = contents-taken a.registers a.constants.now a.class a.out.now _ c.before.before.before.before.before.before.test-lists.ensures c.before.before.before.before.enum_told.given.1 in
-    (l, q, list_legal a.registers (length a.constants.now) a.class q _ (omega (arith, c.before.before.if1.false, c.before.before.before.class-count.ensures)) c.before.class-list.ensures)
+    let a = c.args in
+    let (q, l, w) = contents-taken a.registers a.constants.now a.class a.out.now _ c.test_lists-tests.ensures c.in-Done.is in
+    (l, q, list_legal a.registers (length a.constants.now) a.class q _ (omega (arith, c.if-count-class.false, c.class_count-count.ensures)) c.class_list-labels.ensures)
 
 put-requires : tie.Need-put-requires
 put-requires c κs =
-    let a = c.before.before.before.before.before.before.before.before.before.before.before.args in
-    let (q, l, w) = contents-taken a.registers a.constants.now a.class a.out.now _ c.before.before.before.before.before.before.before.before.test-lists.ensures c.before.before.before.before.before.before.enum_told.given.1 in
+    let a = c.args in
+    let (q, l, w) = contents-taken a.registers a.constants.now a.class a.out.now _ c.test_lists-tests.ensures c.in-Done.is in
     (q, w)
 
-returns-2 : tie.Need-returns-2
-returns-2 c = let a = c.before.before.before.before.before.before.args in contents-refused a.registers a.constants.now a.class a.out.now _ c.before.before.before.test-lists.ensures _ c.before.tests.given.1
+returns-2 : tie.Need-returns-in-Refused
+returns-2 c = let a = c.args in contents-refused a.registers a.constants.now a.class a.out.now _ c.test_lists-tests.ensures _ c.in-Refused.is
 
-returns-3 : tie.Need-returns-3
+returns-3 : tie.Need-returns-else-count-class
 returns-3 c =
-    let a = c.before.before.before.before.before.before.before.before.before.before.before.before.before.before.args in
-    let h : a.class < length (lists a.registers (length a.constants.now)) = omega (arith, c.before.before.before.before.before.before.before.if1.false, c.before.before.before.before.before.before.before.before.class-count.ensures) in
-    let few = (contents-taken a.registers a.constants.now a.class a.out.now _ c.before.before.before.before.before.before.before.before.before.before.before.test-lists.ensures c.before.before.before.before.before.before.before.before.before.enum_told.given.1).0 in
-    contents-done a.registers a.constants.now a.class a.out.now _ c.before.before.before.before.before.before.before.before.before.before.before.test-lists.ensures c.before.before.before.before.before.before.before.before.before.enum_told.given.1 _ _ h
-    (given_back a.registers few a.constants.now _ _ a.class h c.before.before.before.before.before.before.class-list.ensures c.before.before.before.before.before.pair.ensures _ c.before.before.before.before.contents-of.ensures) c.before.before.put.ensures
+    let a = c.args in
+    let h : a.class < length (lists a.registers (length a.constants.now)) = omega (arith, c.if-count-class.false, c.class_count-count.ensures) in
+    let few = (contents-taken a.registers a.constants.now a.class a.out.now _ c.test_lists-tests.ensures c.in-Done.is).0 in
+    contents-done a.registers a.constants.now a.class a.out.now _ c.test_lists-tests.ensures c.in-Done.is _ _ h
+    (given_back a.registers few a.constants.now _ _ a.class h c.class_list-labels.ensures c.pair-cs.ensures _ c.contents_of-list.ensures) c.put.ensures
 
 pub contents_of_spec : {M : Type 1} → statement M
 contents_of_spec =

@@ -5,22 +5,22 @@ use borrow.Author.Rules.{rules}
 use Rattle.classification.proofs.matrix_of.Statement.{statement}
 use Rattle.classification.proofs.matrix_of.Tie as tie
 
-pair-requires : tie.Need-pair-requires
-pair-requires c κs = let a = c.before.before.before.before.before.before.before.args in (matrix-taken a.registers a.constants.now a.contents.now a.out.now _ c.before.before.before.square.ensures _ c.before.before.test-lists.ensures c.enum_told.given.1).0
+pair-requires : tie.Need-pair-cs-requires
+pair-requires c κs = let a = c.args in (matrix-taken a.registers a.constants.now a.contents.now a.out.now _ c.square.ensures _ c.test_lists-tests.ensures c.in-Done.is).0
 
-five-requires : tie.Need-five-requires
-five-requires c κs = let a = c.before.before.before.before.before.before.before.before.args in (matrix-taken a.registers a.constants.now a.contents.now a.out.now _ c.before.before.before.before.square.ensures _ c.before.before.before.test-lists.ensures c.before.enum_told.given.1).1
+five-requires : tie.Need-five-list-requires
+five-requires c κs = let a = c.args in (matrix-taken a.registers a.constants.now a.contents.now a.out.now _ c.square.ensures _ c.test_lists-tests.ensures c.in-Done.is).1
 
-matrix-of-requires : tie.Need-matrix-of-requires
-matrix-of-requires c κs = let a = c.before.before.before.before.before.before.before.before.before.before.args in matrix-taken a.registers a.constants.now a.contents.now a.out.now _ c.before.before.before.before.before.before.square.ensures _ c.before.before.before.before.before.test-lists.ensures c.before.before.before.enum_told.given.1
+matrix-of-requires : tie.Need-matrix_of-requires
+matrix-of-requires c κs = let a = c.args in matrix-taken a.registers a.constants.now a.contents.now a.out.now _ c.square.ensures _ c.test_lists-tests.ensures c.in-Done.is
 
-returns : tie.Need-returns
-returns c = let a = c.before.before.before.before.before.before.before.before.args in matrix-refused a.registers a.constants.now a.contents.now a.out.now _ c.before.before.before.before.square.ensures _ c.before.before.before.test-lists.ensures _ c.before.tests.given.1
+returns : tie.Need-returns-in-Refused
+returns c = let a = c.args in matrix-refused a.registers a.constants.now a.contents.now a.out.now _ c.square.ensures _ c.test_lists-tests.ensures _ c.in-Refused.is
 
-returns-2 : tie.Need-returns-2
+returns-2 : tie.Need-returns-in-Done
 returns-2 c =
-    let a = c.before.before.before.before.before.before.before.before.before.before.before.before.before.args in
-    matrix-done a.registers a.constants.now a.contents.now a.out.now _ c.before.before.before.before.before.before.before.before.before.square.ensures _ c.before.before.before.before.before.before.before.before.test-lists.ensures c.before.before.before.before.before.before.enum_told.given.1 _ _ _ c.before.before.before.before.before.pair.ensures c.before.before.before.before.five.ensures c.before.before.matrix-of.ensures
+    let a = c.args in
+    matrix-done a.registers a.constants.now a.contents.now a.out.now _ c.square.ensures _ c.test_lists-tests.ensures c.in-Done.is _ _ _ c.pair-cs.ensures c.five-list.ensures c.matrix_of.ensures
 
 pub matrix_of_spec : {M : Type 1} → statement M
 matrix_of_spec =

@@ -6,37 +6,37 @@ use borrow.Author.Rules.{rules}
 use Rattle.classification.proofs.matrix_of_class.Statement.{statement}
 use Rattle.classification.proofs.matrix_of_class.Tie as tie
 
-class-count-requires : tie.Need-class-count-requires
+class-count-requires : tie.Need-class_count-classes-requires
 class-count-requires c κs =
-    let a = c.before.before.before.before.before.args in
-    let (q, l, w) = class-matrix-taken a.registers a.constants a.class a.out.now _ c.before.before.before.square.ensures _ c.before.before.test-counts.ensures c.enum_told.given.1 in
+    let a = c.args in
+    let (q, l, w) = class-matrix-taken a.registers a.constants a.class a.out.now _ c.square.ensures _ c.test_counts-tests.ensures c.in-Done.is in
     (q, l)
 
-returns : tie.Need-returns
+returns : tie.Need-returns-then-classes-class
 returns c =
-    let a = c.before.before.before.before.before.before.before.before.args in
-    class-matrix_out_of_range a.registers a.constants a.class a.out.now _ c.before.before.before.before.before.before.square.ensures _ c.before.before.before.before.before.test-counts.ensures c.before.before.before.enum_told.given.1 (omega (arith, c.before.if1.true, c.before.before.class-count.ensures)) _ c.refusal.ensures
+    let a = c.args in
+    class-matrix_out_of_range a.registers a.constants a.class a.out.now _ c.square.ensures _ c.test_counts-tests.ensures c.in-Done.is (omega (arith, c.if-classes-class.true, c.class_count-classes.ensures)) _ c.refusal.ensures
 
-class-list-requires : tie.Need-class-list-requires
+class-list-requires : tie.Need-class_list-labels-requires
 class-list-requires c κs =
-    let a = c.before.before.before.before.before.before.before.args in
-    let (q, l, w) = class-matrix-taken a.registers a.constants a.class a.out.now _ c.before.before.before.before.before.square.ensures _ c.before.before.before.before.test-counts.ensures c.before.before.enum_told.given.1 in
-    (q, l, omega (arith, c.if1.false, c.before.class-count.ensures))
+    let a = c.args in
+    let (q, l, w) = class-matrix-taken a.registers a.constants a.class a.out.now _ c.square.ensures _ c.test_counts-tests.ensures c.in-Done.is in
+    (q, l, omega (arith, c.if-classes-class.false, c.class_count-classes.ensures))
 
-class-matrix-requires : tie.Need-class-matrix-requires
+class-matrix-requires : tie.Need-class_matrix-requires
 class-matrix-requires c κs =
-    let a = c.before.before.before.before.before.before.before.before.before.args in
-    let (q, l, w) = class-matrix-taken a.registers a.constants a.class a.out.now _ c.before.before.before.before.before.before.before.square.ensures _ c.before.before.before.before.before.before.test-counts.ensures c.before.before.before.before.enum_told.given.1 in
+    let a = c.args in
+    let (q, l, w) = class-matrix-taken a.registers a.constants a.class a.out.now _ c.square.ensures _ c.test_counts-tests.ensures c.in-Done.is in
     (l, q, w)
 
-returns-2 : tie.Need-returns-2
-returns-2 c = let a = c.before.before.before.before.before.before.args in class-matrix-refused a.registers a.constants a.class a.out.now _ c.before.before.before.before.square.ensures _ c.before.before.before.test-counts.ensures _ c.before.tests.given.1
+returns-2 : tie.Need-returns-in-Refused
+returns-2 c = let a = c.args in class-matrix-refused a.registers a.constants a.class a.out.now _ c.square.ensures _ c.test_counts-tests.ensures _ c.in-Refused.is
 
-returns-3 : tie.Need-returns-3
+returns-3 : tie.Need-returns-else-classes-class
 returns-3 c =
-    let a = c.before.before.before.before.before.before.before.before.before.before.before.before.args in
-    class-matrix-done a.registers a.constants a.class a.out.now _ c.before.before.before.before.before.before.before.before.before.before.square.ensures _ c.before.before.before.before.before.before.before.before.before.test-counts.ensures c.before.before.before.before.before.before.before.enum_told.given.1 _ _
-    (omega (arith, c.before.before.before.before.before.if1.false, c.before.before.before.before.before.before.class-count.ensures)) c.before.before.before.before.class-list.ensures c.before.before.class-matrix.ensures
+    let a = c.args in
+    class-matrix-done a.registers a.constants a.class a.out.now _ c.square.ensures _ c.test_counts-tests.ensures c.in-Done.is _ _
+    (omega (arith, c.if-classes-class.false, c.class_count-classes.ensures)) c.class_list-labels.ensures c.class_matrix.ensures
 
 pub matrix_of_class_spec : {M : Type 1} → statement M
 matrix_of_class_spec =

@@ -6,14 +6,14 @@ use native.Mathlib.Omega.{arith}
 use Rattle.classification.proofs.pair.Statement.{statement}
 use Rattle.classification.proofs.pair.Tie as tie
 
-returns : tie.Need-returns
-returns c = pair-none c.before.args.constants.now (omega arith)
+returns : tie.Need-returns-then-n-eq0
+returns c = pair-none c.args.constants.now (omega arith)
 
-returns-2 : tie.Need-returns-2
-returns-2 c = pair_one c.before.before.before.args.constants.now (omega arith)
+returns-2 : tie.Need-returns-then-n-eq1
+returns-2 c = pair_one c.args.constants.now (omega arith)
 
-returns-3 : tie.Need-returns-3
-returns-3 c = pair_two c.before.before.before.before.args.constants.now (omega arith)
+returns-3 : tie.Need-returns
+returns-3 c = pair_two c.args.constants.now (omega arith)
 
 pub pair_spec : {M : Type 1} → statement M
 pair_spec =

@@ -10,7 +10,7 @@ pub rises_spec : {M : Type 1} → statement M
 rises_spec =
     tie.close
     (tie.spec
-    (λ c. rises_short c.before.args.constants.now (omega arith))
+    (λ c. rises_short c.args.constants.now (omega arith))
     (λ c. search rules)
     (λ c. search rules)
-    (λ c. rises_two c.before.before.before.args.constants.now (omega arith)))
+    (λ c. rises_two c.args.constants.now (omega arith)))

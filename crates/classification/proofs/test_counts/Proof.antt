@@ -9,23 +9,23 @@ use borrow.Author.Rules.{rules}
 use Rattle.classification.proofs.test_counts.Statement.{statement}
 use Rattle.classification.proofs.test_counts.Tie as tie
 
-returns : tie.Need-returns
-returns c = let a = c.before.before.args in ap Refused c.refusal.ensures ∙ unfit a.registers a.constants a.fits (not-true a.fits c.before.if1.true)
+returns : tie.Need-returns-then-not-fits
+returns c = let a = c.args in ap Refused c.refusal.ensures ∙ unfit a.registers a.constants a.fits c.if-not-fits.true
 
-returns-2 : tie.Need-returns-2
+returns-2 : tie.Need-returns-then-registers-gt5
 returns-2 c =
-    let a = c.before.before.before.args in
-    ap Refused c.refusal2.ensures ∙ many-registers a.registers a.constants a.fits (not-false a.fits c.before.before.if1.false) (omega (arith, c.before.if2.true))
+    let a = c.args in
+    ap Refused c.refusal-then-registers-gt5.ensures ∙ many-registers a.registers a.constants a.fits c.if-not-fits.false (omega (arith, c.if-registers-gt5.true))
 
-returns-3 : tie.Need-returns-3
+returns-3 : tie.Need-returns-then-constants-gt2
 returns-3 c =
-    let a = c.before.before.before.before.args in
-    ap Refused c.refusal3.ensures ∙ many-constants a.registers a.constants a.fits (not-false a.fits c.before.before.before.if1.false) (omega (arith, c.before.before.if2.false)) (omega (arith, c.before.if3.true))
+    let a = c.args in
+    ap Refused c.refusal-then-constants-gt2.ensures ∙ many-constants a.registers a.constants a.fits c.if-not-fits.false (omega (arith, c.if-registers-gt5.false)) (omega (arith, c.if-constants-gt2.true))
 
-returns-4 : tie.Need-returns-4
+returns-4 : tie.Need-returns
 returns-4 c =
-    let a = c.before.before.before.args in
-    counts-taken a.registers a.constants a.fits (not-false a.fits c.before.before.if1.false) (omega (arith, c.before.if2.false)) (omega (arith, c.if3.false))
+    let a = c.args in
+    counts-taken a.registers a.constants a.fits c.if-not-fits.false (omega (arith, c.if-registers-gt5.false)) (omega (arith, c.if-constants-gt2.false))
 
 pub test_counts_spec : {M : Type 1} → statement M
 test_counts_spec =
