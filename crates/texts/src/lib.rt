@@ -333,7 +333,7 @@ pub fn read_text(
         locations: locations,
     };
     let mut text = [0u8; LENGTH];
-    bytes::copy(s, &mut text);
+    text[..s.len()].copy_from_slice(s);
     let mut form = [0u32; forms::QUESTION_LENGTH];
     match scan(&text, s.len() as u32, &mut form) {
         Scanned::Outside(p) => refused(11, p),

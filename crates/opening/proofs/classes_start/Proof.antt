@@ -24,7 +24,7 @@ class-count-requires c κs = (c.registers-registers.ensures.1, c.constants-const
 
 has-start-requires : tie.Need-has_start-requires
 has-start-requires c κs =
-    let e = c.before.before.before.before.before.before.before.before.before.before in
+    let e = c in
     let t = e.args.form.now in
     let w = c.registers-registers.ensures.0 in
     let w₂ = c.constants-constants.ensures.0 in
@@ -34,7 +34,7 @@ has-start-requires c κs =
 
 returns : tie.Need-returns
 returns c =
-    let e = c.before.before.before.before.before.before.before.before.before.before.before in
+    let e = c in
     (c.has_start.ensures, c.fill_labels.ensures ∙ ap₂ (λ q k. written (label_rows q k) e.args.flat.now) c.registers-registers.ensures.0 c.constants-constants.ensures.0)
 
 pub classes_start_spec : {M : Type 1} → statement M

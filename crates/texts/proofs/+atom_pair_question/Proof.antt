@@ -99,203 +99,203 @@ breaks t w p (e, l) =
     let s = take a.n a.s.now in
     right-stop s a.at a.rows a.t.now (from s a.at) p _ a.t.now (step-stopped _ (omega (arith, short t w))) e l
 
-atom-add-next : (t : ℕ) → atom-lts.Need-add-next (atom_claims t) (atom-at t) atom.Post
-atom-add-next t c = let w = c.before in omega (arith, w.requires.1, short t w)
+atom-add-next : (t : ℕ) → atom-lts.Need-overflow_add-next (atom_claims t) (atom-at t) atom.Post
+atom-add-next t c = let w = c in omega (arith, w.requires.1, short t w)
 
 -- the operator !
-opens_not : (t : ℕ) (c : atom-lts.Then1 (atom_claims t) (atom-at t) atom.Post) → let a = c.before.before.args in Opens (take a.n a.s.now) a.at 4 (a.at + 1)
-opens_not t c = let a = c.before.before.args in not-here (take a.n a.s.now) a.at (sym c.before.byte_at.ensures ∙ c.if1.true)
+opens_not : (t : ℕ) (c : atom-lts.Then-b-eq33 (atom_claims t) (atom-at t) atom.Post) → let a = c.args in Opens (take a.n a.s.now) a.at 4 (a.at + 1)
+opens_not t c = let a = c.args in not-here (take a.n a.s.now) a.at (sym c.byte_at-b.ensures ∙ c.if-b-eq33.true)
 
-atom-question_requires : (t : ℕ) → atom-lts.Need-question-requires (atom_claims t) (atom-at t) atom.Post
+atom-question_requires : (t : ℕ) → atom-lts.Need-question-q-requires (atom_claims t) (atom-at t) atom.Post
 atom-question_requires t c κs =
-    let w = c.before.before.before in
+    let w = c in
     let o = opens_not t c.before in
     (omega (arith, w.requires, o.2), (o.2.2, w.requires.1.1, omega (arith, w.requires.1)))
 
 atom_prefixed_requires : (t : ℕ) → atom-lts.Need-prefixed-requires (atom_claims t) (atom-at t) atom.Post
 atom_prefixed_requires t c κs =
-    let w = c.before.before.before.before.before in
+    let w = c in
     let a = w.args in
     let s = take a.n a.s.now in
-    right-few (from s (a.at + 1)) s (a.at + 1) a.rows a.t.now _ _ c.before.question.ensures (omega (arith, w.requires.1)) (short t w)
+    right-few (from s (a.at + 1)) s (a.at + 1) a.rows a.t.now _ _ c.question-q.ensures (omega (arith, w.requires.1)) (short t w)
 
-atom_returns : (t : ℕ) → atom-lts.Need-returns (atom_claims t) (atom-at t) atom.Post
+atom_returns : (t : ℕ) → atom-lts.Need-returns-then-b-eq33 (atom_claims t) (atom-at t) atom.Post
 atom_returns t c =
-    let a = c.before.before.before.before.before.before.args in
+    let a = c.args in
     let s = take a.n a.s.now in
     let o = opens_not t c.before.before.before.before in
-    right_prefix s a.at (a.at + 1) a.rows a.t.now (from s a.at) (from s (a.at + 1)) 4 o.0 o.1 o.2.0 o.2.1 (step_of c.before.before.question.result) c.before.before.question.new.1.1.0 c.before.before.question.ensures
+    right_prefix s a.at (a.at + 1) a.rows a.t.now (from s a.at) (from s (a.at + 1)) 4 o.0 o.1 o.2.0 o.2.1 (step_of c.question-q.result) c.question-q.new.t c.question-q.ensures
     _ _ c.prefixed.ensures.0 c.prefixed.ensures.1
 
 atom-location_requires : (t : ℕ) → atom-lts.Need-location-requires (atom_claims t) (atom-at t) atom.Post
 atom-location_requires t c κs =
-    let w = c.before.before.before.before in
-    let o = location-here (take w.args.n w.args.s.now) w.args.at (sym c.before.before.before.byte_at.ensures ∙ c.before.if2.true) in
+    let w = c in
+    let o = location-here (take w.args.n w.args.s.now) w.args.at (sym c.byte_at-b.ensures ∙ c.if-b-eq76.true) in
     (o.2, w.requires.1.1, omega (arith, w.requires.1.2))
 
-atom_returns_2 : (t : ℕ) → atom-lts.Need-returns-2 (atom_claims t) (atom-at t) atom.Post
+atom_returns_2 : (t : ℕ) → atom-lts.Need-returns-then-b-eq76 (atom_claims t) (atom-at t) atom.Post
 atom_returns_2 t c =
-    let a = c.before.before.before.before.before.args in
+    let a = c.args in
     let s = take a.n a.s.now in
-    let o = location-here s a.at (sym c.before.before.before.before.byte_at.ensures ∙ c.before.before.if2.true) in
-    right-same s a.at (a.at + 1) a.rows a.t.now (from s a.at) (location_from s (a.at + 1)) o.0 o.1 (step_of c.location.result) c.location.new.1.1.0 c.location.ensures
+    let o = location-here s a.at (sym c.byte_at-b.ensures ∙ c.if-b-eq76.true) in
+    right-same s a.at (a.at + 1) a.rows a.t.now (from s a.at) (location_from s (a.at + 1)) o.0 o.1 (step_of c.location.result) c.location.new.t c.location.ensures
 
 atom-equation_requires : (t : ℕ) → atom-lts.Need-equation-requires (atom_claims t) (atom-at t) atom.Post
 atom-equation_requires t c κs =
-    let w = c.before.before.before.before.before in
-    let o = register-here (take w.args.n w.args.s.now) w.args.at (sym c.before.before.before.before.byte_at.ensures ∙ c.before.if3.true) in
+    let w = c in
+    let o = register-here (take w.args.n w.args.s.now) w.args.at (sym c.byte_at-b.ensures ∙ c.if-b-eq114.true) in
     (o.2, w.requires.1.1, omega (arith, w.requires.1.2))
 
-atom_returns_3 : (t : ℕ) → atom-lts.Need-returns-3 (atom_claims t) (atom-at t) atom.Post
+atom_returns_3 : (t : ℕ) → atom-lts.Need-returns-then-b-eq114 (atom_claims t) (atom-at t) atom.Post
 atom_returns_3 t c =
-    let a = c.before.before.before.before.before.before.args in
+    let a = c.args in
     let s = take a.n a.s.now in
-    let o = register-here s a.at (sym c.before.before.before.before.before.byte_at.ensures ∙ c.before.before.if3.true) in
-    right-same s a.at (a.at + 1) a.rows a.t.now (from s a.at) (equation_from s (a.at + 1)) o.0 o.1 (step_of c.equation.result) c.equation.new.1.1.0 c.equation.ensures
+    let o = register-here s a.at (sym c.byte_at-b.ensures ∙ c.if-b-eq114.true) in
+    right-same s a.at (a.at + 1) a.rows a.t.now (from s a.at) (equation_from s (a.at + 1)) o.0 o.1 (step_of c.equation.result) c.equation.new.t c.equation.ensures
 
 -- the kind of an operator of two bytes
-operator : (t : ℕ) (c : atom-lts.After-prefix (atom_claims t) (atom-at t) atom.Post) → let a = c.before.before.before.before.before.before.args in c.prefix.result ≡ prefix_kind (get_or (take a.n a.s.now) a.at 0) (get_or (take a.n a.s.now) (a.at + 1) 0)
-operator t c = c.prefix.ensures ∙ ap₂ prefix_kind c.before.before.before.before.before.byte_at.ensures c.before.byte-at2.ensures
+operator : (t : ℕ) (c : atom-lts.After-prefix-k (atom_claims t) (atom-at t) atom.Post) → let a = c.args in c.prefix-k.result ≡ prefix_kind (get_or (take a.n a.s.now) a.at 0) (get_or (take a.n a.s.now) (a.at + 1) 0)
+operator t c = c.prefix-k.ensures ∙ ap₂ prefix_kind c.byte_at-b.ensures c.byte_at-c.ensures
 
-atom-add-pair : (t : ℕ) → atom-lts.Need-add-pair (atom_claims t) (atom-at t) atom.Post
-atom-add-pair t c = let w = c.before.before.before.before.before.before.before.before.before.before in omega (arith, w.requires.1, short t w)
+atom-add-pair : (t : ℕ) → atom-lts.Need-overflow_add-next-then-c-eq40 (atom_claims t) (atom-at t) atom.Post
+atom-add-pair t c = let w = c in omega (arith, w.requires.1, short t w)
 
 atom-pair_requires : (t : ℕ) → atom-lts.Need-pair-requires (atom_claims t) (atom-at t) atom.Post
 atom-pair_requires t c κs =
-    let w = c.before.before.before.before.before.before.before.before.before.before in
-    let o = until-here (take w.args.n w.args.s.now) w.args.at (sym c.before.before.before.before.before.before.before.before.before.byte_at.ensures ∙ c.before.before.if5.true) (sym c.before.before.before.before.before.byte-at2.ensures ∙ c.before.if6.true) in
+    let w = c in
+    let o = until-here (take w.args.n w.args.s.now) w.args.at (sym c.byte_at-b.ensures ∙ c.if-b-eq69.true) (sym c.byte_at-c.ensures ∙ c.if-c-eq40.true) in
     (omega (arith, w.requires, o), (o.2, w.requires.1.1, omega (arith, w.requires.1.2)))
 
-atom_returns_4 : (t : ℕ) → atom-lts.Need-returns-4 (atom_claims t) (atom-at t) atom.Post
+atom_returns_4 : (t : ℕ) → atom-lts.Need-returns-then-c-eq40 (atom_claims t) (atom-at t) atom.Post
 atom_returns_4 t c =
-    let a = c.before.before.before.before.before.before.before.before.before.before.before.args in
+    let a = c.args in
     let s = take a.n a.s.now in
-    let o = until-here s a.at (sym c.before.before.before.before.before.before.before.before.before.before.byte_at.ensures ∙ c.before.before.before.if5.true) (sym c.before.before.before.before.before.before.byte-at2.ensures ∙ c.before.before.if6.true) in
-    right-same s a.at (a.at + 1 + 1) a.rows a.t.now (from s a.at) (pair_from true s (a.at + 1 + 1)) o.0 o.1 (step_of c.pair.result) c.pair.new.1.1.0 c.pair.ensures
+    let o = until-here s a.at (sym c.byte_at-b.ensures ∙ c.if-b-eq69.true) (sym c.byte_at-c.ensures ∙ c.if-c-eq40.true) in
+    right-same s a.at (a.at + 1 + 1) a.rows a.t.now (from s a.at) (pair_from true s (a.at + 1 + 1)) o.0 o.1 (step_of c.pair.result) c.pair.new.t c.pair.ensures
 
-atom_returns_5 : (t : ℕ) → atom-lts.Need-returns-5 (atom_claims t) (atom-at t) atom.Post
+atom_returns_5 : (t : ℕ) → atom-lts.Need-returns-then-b-eq69 (atom_claims t) (atom-at t) atom.Post
 atom_returns_5 t c =
-    let w = c.before.before.before.before.before.before.before.before.before in
+    let w = c in
     let a = w.args in
     let s = take a.n a.s.now in
-    breaks t w (a.at + 1) (exists_breaks s a.at (sym c.before.before.before.before.before.before.before.before.byte_at.ensures ∙ c.before.if5.true) (sym (operator t c.before.before.before) ∙ c.before.before.if4.true) (λ h. c.if6.false (c.before.before.before.before.byte-at2.ensures ∙ h)))
+    breaks t w (a.at + 1) (exists_breaks s a.at (sym c.byte_at-b.ensures ∙ c.if-b-eq69.true) (sym (operator t c.before.before.before) ∙ c.if-k-eq0.true) (λ h. c.if-c-eq40.false (c.byte_at-c.ensures ∙ h)))
 
-atom_returns_6 : (t : ℕ) → atom-lts.Need-returns-6 (atom_claims t) (atom-at t) atom.Post
+atom_returns_6 : (t : ℕ) → atom-lts.Need-returns-then-b-eq65 (atom_claims t) (atom-at t) atom.Post
 atom_returns_6 t c =
-    let w = c.before.before.before.before.before.before.before.before.before in
+    let w = c in
     let a = w.args in
     let s = take a.n a.s.now in
-    breaks t w (a.at + 1) (always_breaks s a.at (sym c.before.before.before.before.before.before.before.before.byte_at.ensures ∙ c.if7.true) (sym (operator t c.before.before.before) ∙ c.before.before.if4.true))
+    breaks t w (a.at + 1) (always_breaks s a.at (sym c.byte_at-b.ensures ∙ c.if-b-eq65.true) (sym (operator t c.before.before.before) ∙ c.if-k-eq0.true))
 
-atom_returns_7 : (t : ℕ) → atom-lts.Need-returns-7 (atom_claims t) (atom-at t) atom.Post
+atom_returns_7 : (t : ℕ) → atom-lts.Need-returns-then-k-eq0 (atom_claims t) (atom-at t) atom.Post
 atom_returns_7 t c =
-    let w = c.before.before.before.before.before.before.before.before.before in
+    let w = c in
     let a = w.args in
     let s = take a.n a.s.now in
-    let b = c.before.before.before.before.before.before.before.before.byte_at.ensures in
-    breaks t w a.at (none_here s a.at w.requires.1.0 w.requires.1.3 (λ h. c.before.before.before.before.before.before.before.if1.false (b ∙ h)) (λ h. c.before.before.before.before.before.before.if2.false (b ∙ h)) (λ h. c.before.before.before.before.before.if3.false (b ∙ h)) (λ h. c.before.if5.false (b ∙ h)) (λ h. c.if7.false (b ∙ h)))
+    let b = c.byte_at-b.ensures in
+    breaks t w a.at (none_here s a.at w.requires.1.0 w.requires.1.3 (λ h. c.if-b-eq33.false (b ∙ h)) (λ h. c.if-b-eq76.false (b ∙ h)) (λ h. c.if-b-eq114.false (b ∙ h)) (λ h. c.if-b-eq69.false (b ∙ h)) (λ h. c.if-b-eq65.false (b ∙ h)))
 
 -- the operator of two bytes
-opens_two : (t : ℕ) (c : atom-lts.Else4 (atom_claims t) (atom-at t) atom.Post) → let a = c.before.before.before.before.before.before.before.args in Opens (take a.n a.s.now) a.at c.before.prefix.result (a.at + 1 + 1)
-opens_two t c = let a = c.before.before.before.before.before.before.before.args in prefix_here (take a.n a.s.now) a.at _ (operator t c.before) c.if4.false
+opens_two : (t : ℕ) (c : atom-lts.Else-k-eq0 (atom_claims t) (atom-at t) atom.Post) → let a = c.args in Opens (take a.n a.s.now) a.at c.prefix-k.result (a.at + 1 + 1)
+opens_two t c = let a = c.args in prefix_here (take a.n a.s.now) a.at _ (operator t c.before) c.if-k-eq0.false
 
-atom-add-question : (t : ℕ) → atom-lts.Need-add-question (atom_claims t) (atom-at t) atom.Post
-atom-add-question t c = let w = c.before.before.before.before.before.before.before.before in omega (arith, w.requires.1, short t w)
+atom-add-question : (t : ℕ) → atom-lts.Need-overflow_add-next-2 (atom_claims t) (atom-at t) atom.Post
+atom-add-question t c = let w = c in omega (arith, w.requires.1, short t w)
 
-atom-question_requires_2 : (t : ℕ) → atom-lts.Need-question-requires-2 (atom_claims t) (atom-at t) atom.Post
+atom-question_requires_2 : (t : ℕ) → atom-lts.Need-question-q-requires-2 (atom_claims t) (atom-at t) atom.Post
 atom-question_requires_2 t c κs =
-    let w = c.before.before.before.before.before.before.before.before in
+    let w = c in
     let o = opens_two t c.before in
     (omega (arith, w.requires, o.2), (o.2.2, w.requires.1.1, omega (arith, w.requires.1)))
 
 atom_prefixed_requires_2 : (t : ℕ) → atom-lts.Need-prefixed-requires-2 (atom_claims t) (atom-at t) atom.Post
 atom_prefixed_requires_2 t c κs =
-    let w = c.before.before.before.before.before.before.before.before.before.before in
+    let w = c in
     let a = w.args in
     let s = take a.n a.s.now in
-    right-few (from s (a.at + 1 + 1)) s (a.at + 1 + 1) a.rows a.t.now _ _ c.before.question2.ensures (omega (arith, w.requires.1)) (short t w)
+    right-few (from s (a.at + 1 + 1)) s (a.at + 1 + 1) a.rows a.t.now _ _ c.question-q-2.ensures (omega (arith, w.requires.1)) (short t w)
 
-atom_returns_8 : (t : ℕ) → atom-lts.Need-returns-8 (atom_claims t) (atom-at t) atom.Post
+atom_returns_8 : (t : ℕ) → atom-lts.Need-returns (atom_claims t) (atom-at t) atom.Post
 atom_returns_8 t c =
-    let a = c.before.before.before.before.before.before.before.before.before.before.before.args in
+    let a = c.args in
     let s = take a.n a.s.now in
     let o = opens_two t c.before.before.before.before in
-    right_prefix s a.at (a.at + 1 + 1) a.rows a.t.now (from s a.at) (from s (a.at + 1 + 1)) _ o.0 o.1 o.2.0 o.2.1 (step_of c.before.before.question2.result) c.before.before.question2.new.1.1.0 c.before.before.question2.ensures
-    _ _ c.prefixed2.ensures.0 c.prefixed2.ensures.1
+    right_prefix s a.at (a.at + 1 + 1) a.rows a.t.now (from s a.at) (from s (a.at + 1 + 1)) _ o.0 o.1 o.2.0 o.2.1 (step_of c.question-q-2.result) c.question-q-2.new.t c.question-q-2.ensures
+    _ _ c.prefixed-2.ensures.0 c.prefixed-2.ensures.1
 
 -- A pair
 
 -- the left question
-left : (t : ℕ) (c : pair-lts.Else1 (pair_claims t) (pair-at t) pair.Post) → let a = c.before.before.before.args in let p = c.before.question.result in
-    Right (from (take a.n a.s.now) a.at) (take a.n a.s.now) a.at a.rows a.t.now (read (p % 1024) (p / 1024)) c.before.question.new.1.1.0
-left t c = let a = c.before.before.before.args in let s = take a.n a.s.now in right-read (from s a.at) s a.at a.rows a.t.now _ _ c.before.question.ensures c.if1.false
+left : (t : ℕ) (c : pair-lts.Else-p-lt1024 (pair_claims t) (pair-at t) pair.Post) → let a = c.args in let p = c.question-p.result in
+    Right (from (take a.n a.s.now) a.at) (take a.n a.s.now) a.at a.rows a.t.now (read (p % 1024) (p / 1024)) c.question-p.new.t
+left t c = let a = c.args in let s = take a.n a.s.now in right-read (from s a.at) s a.at a.rows a.t.now _ _ c.question-p.ensures c.if-p-lt1024.false
 
 -- what follows it
-kind : (t : ℕ) (c : pair-lts.After-middle (pair_claims t) (pair-at t) pair.Post) → let a = c.before.before.before.before.before.args in c.middle.result ≡ middle_kind a.until (get_or (take a.n a.s.now) (c.before.before.before.question.result % 1024) 0)
-kind t c = c.middle.ensures ∙ ap (middle_kind c.before.before.before.before.before.args.until) c.before.byte_at.ensures
+kind : (t : ℕ) (c : pair-lts.After-middle-k (pair_claims t) (pair-at t) pair.Post) → let a = c.args in c.middle-k.result ≡ middle_kind a.until (get_or (take a.n a.s.now) (c.question-p.result % 1024) 0)
+kind t c = c.middle-k.ensures ∙ ap (middle_kind c.args.until) c.byte_at.ensures
 
 -- the right question
-right : (t : ℕ) (c : pair-lts.Else3 (pair_claims t) (pair-at t) pair.Post) → let a = c.before.before.before.before.before.before.before.before.before.args in let p = c.before.before.before.before.before.before.before.question.result in let q = c.before.question2.result in
-    Right (from (take a.n a.s.now) (p % 1024 + 1)) (take a.n a.s.now) (p % 1024 + 1) (p / 1024) c.before.before.before.before.before.before.before.question.new.1.1.0 (read (q % 1024) (q / 1024)) c.before.question2.new.1.1.0
+right : (t : ℕ) (c : pair-lts.Else-q-lt1024 (pair_claims t) (pair-at t) pair.Post) → let a = c.args in let p = c.question-p.result in let q = c.question-q.result in
+    Right (from (take a.n a.s.now) (p % 1024 + 1)) (take a.n a.s.now) (p % 1024 + 1) (p / 1024) c.question-p.new.t (read (q % 1024) (q / 1024)) c.question-q.new.t
 right t c =
-    let a = c.before.before.before.before.before.before.before.before.before.args in
+    let a = c.args in
     let s = take a.n a.s.now in
-    let p = c.before.before.before.before.before.before.before.question.result in
-    right-read (from s (p % 1024 + 1)) s (p % 1024 + 1) (p / 1024) c.before.before.before.before.before.before.before.question.new.1.1.0 _ _ c.before.question2.ensures c.if3.false
+    let p = c.question-p.result in
+    right-read (from s (p % 1024 + 1)) s (p % 1024 + 1) (p / 1024) c.question-p.new.t _ _ c.question-q.ensures c.if-q-lt1024.false
 
-pair_returns : (t : ℕ) → pair-lts.Need-returns (pair_claims t) (pair-at t) pair.Post
+pair_returns : (t : ℕ) → pair-lts.Need-returns-then-p-lt1024 (pair_claims t) (pair-at t) pair.Post
 pair_returns t c =
-    let a = c.before.before.before.args in
+    let a = c.args in
     let s = take a.n a.s.now in
-    right-left-stop s a.at a.rows a.t.now a.until _ c.before.question.new.1.1.0 (right-stopped (from s a.at) s a.at a.rows a.t.now _ _ c.before.question.ensures c.if1.true) _ c.before.question.new.1.1.0 (step-stopped _ c.if1.true)
+    right-left-stop s a.at a.rows a.t.now a.until _ c.question-p.new.t (right-stopped (from s a.at) s a.at a.rows a.t.now _ _ c.question-p.ensures c.if-p-lt1024.true) _ c.question-p.new.t (step-stopped _ c.if-p-lt1024.true)
 
-pair_returns_2 : (t : ℕ) → pair-lts.Need-returns-2 (pair_claims t) (pair-at t) pair.Post
+pair_returns_2 : (t : ℕ) → pair-lts.Need-returns-then-k-eq0 (pair_claims t) (pair-at t) pair.Post
 pair_returns_2 t c =
-    let a = c.before.before.before.before.before.before.args in
+    let a = c.args in
     let s = take a.n a.s.now in
-    right_middle_stop s a.at a.rows a.t.now a.until _ _ c.before.before.before.before.question.new.1.1.0 (left t c.before.before.before) (sym (kind t c.before) ∙ c.if2.true) _ c.before.before.before.before.question.new.1.1.0 (step-stopped _ (omega arith))
+    right_middle_stop s a.at a.rows a.t.now a.until _ _ c.question-p.new.t (left t c.before.before.before) (sym (kind t c.before) ∙ c.if-k-eq0.true) _ c.question-p.new.t (step-stopped _ (omega arith))
 
-pair-question_requires_2 : (t : ℕ) → pair-lts.Need-question-requires-2 (pair_claims t) (pair-at t) pair.Post
+pair-question_requires_2 : (t : ℕ) → pair-lts.Need-question-q-requires (pair_claims t) (pair-at t) pair.Post
 pair-question_requires_2 t c κs =
-    let w = c.before.before.before.before.before.before.before in
+    let w = c in
     let a = w.args in
     let s = take a.n a.s.now in
-    let p = c.before.before.before.before.before.question.result in
+    let p = c.question-p.result in
     let r = left t c.before.before.before.before in
-    let l : p % 1024 < length s = middle_in s a.at a.rows a.t.now a.until (p % 1024) (p / 1024) c.before.before.before.before.before.question.new.1.1.0 r _ (kind t c.before.before) c.before.if2.false in
+    let l : p % 1024 < length s = middle_in s a.at a.rows a.t.now a.until (p % 1024) (p / 1024) c.question-p.new.t r _ (kind t c.before.before) c.if-k-eq0.false in
     (omega (arith, w.requires, r.4), (omega arith, w.requires.1.1, omega (arith, w.requires.1, r.6)))
 
-pair_returns_3 : (t : ℕ) → pair-lts.Need-returns-3 (pair_claims t) (pair-at t) pair.Post
+pair_returns_3 : (t : ℕ) → pair-lts.Need-returns-then-q-lt1024 (pair_claims t) (pair-at t) pair.Post
 pair_returns_3 t c =
-    let a = c.before.before.before.before.before.before.before.before.before.args in
+    let a = c.args in
     let s = take a.n a.s.now in
-    let p = c.before.before.before.before.before.before.before.question.result in
-    let v = c.before.before.before.before.before.before.before.question.new.1.1.0 in
-    right-right-stop s a.at a.rows a.t.now a.until (p % 1024) (p / 1024) v (left t c.before.before.before.before.before.before) _ (kind t c.before.before.before.before) c.before.before.before.if2.false
-    _ c.before.question2.new.1.1.0 (right-stopped (from s (p % 1024 + 1)) s (p % 1024 + 1) (p / 1024) v _ _ c.before.question2.ensures c.if3.true) _ c.before.question2.new.1.1.0 (step-stopped _ c.if3.true)
+    let p = c.question-p.result in
+    let v = c.question-p.new.t in
+    right-right-stop s a.at a.rows a.t.now a.until (p % 1024) (p / 1024) v (left t c.before.before.before.before.before.before) _ (kind t c.before.before.before.before) c.if-k-eq0.false
+    _ c.question-q.new.t (right-stopped (from s (p % 1024 + 1)) s (p % 1024 + 1) (p / 1024) v _ _ c.question-q.ensures c.if-q-lt1024.true) _ c.question-q.new.t (step-stopped _ c.if-q-lt1024.true)
 
-pair_returns_4 : (t : ℕ) → pair-lts.Need-returns-4 (pair_claims t) (pair-at t) pair.Post
+pair_returns_4 : (t : ℕ) → pair-lts.Need-returns-then-byte_at-ne41 (pair_claims t) (pair-at t) pair.Post
 pair_returns_4 t c =
-    let a = c.before.before.before.before.before.before.before.before.before.before.before.args in
+    let a = c.args in
     let s = take a.n a.s.now in
-    let p = c.before.before.before.before.before.before.before.before.before.question.result in
-    right_open_stop s a.at a.rows a.t.now a.until (p % 1024) (p / 1024) c.before.before.before.before.before.before.before.before.before.question.new.1.1.0 (left t c.before.before.before.before.before.before.before.before) _ (kind t c.before.before.before.before.before.before) c.before.before.before.before.before.if2.false
-    _ _ c.before.before.before.question2.new.1.1.0 (right t c.before.before) (λ h. c.if4.true (c.before.byte-at2.ensures ∙ h)) _ c.before.before.before.question2.new.1.1.0 (step-stopped _ (omega arith))
+    let p = c.question-p.result in
+    right_open_stop s a.at a.rows a.t.now a.until (p % 1024) (p / 1024) c.question-p.new.t (left t c.before.before.before.before.before.before.before.before) _ (kind t c.before.before.before.before.before.before) c.if-k-eq0.false
+    _ _ c.question-q.new.t (right t c.before.before) (λ h. c.if-byte_at-ne41.true (c.byte_at-2.ensures ∙ h)) _ c.question-q.new.t (step-stopped _ (omega arith))
 
 pair-closed_requires : (t : ℕ) → pair-lts.Need-closed-requires (pair_claims t) (pair-at t) pair.Post
 pair-closed_requires t c κs =
     let l = left t c.before.before.before.before.before.before.before.before.before in
     let r = right t c.before.before.before in
-    let w = c.before.before.before.before.before.before.before.before.before.before.before.before in
+    let w = c in
     omega (arith, w.requires.1, take_short w.args.n w.args.s.now w.requires.1.1, l.5, l.6, r.5, r.6)
 
-pair_returns_5 : (t : ℕ) → pair-lts.Need-returns-5 (pair_claims t) (pair-at t) pair.Post
+pair_returns_5 : (t : ℕ) → pair-lts.Need-returns (pair_claims t) (pair-at t) pair.Post
 pair_returns_5 t c =
-    let a = c.before.before.before.before.before.before.before.before.before.before.before.before.before.args in
+    let a = c.args in
     let s = take a.n a.s.now in
-    let p = c.before.before.before.before.before.before.before.before.before.before.before.question.result in
-    right-pair s a.at a.rows a.t.now a.until (p % 1024) (p / 1024) c.before.before.before.before.before.before.before.before.before.before.before.question.new.1.1.0 (left t c.before.before.before.before.before.before.before.before.before.before) _ (kind t c.before.before.before.before.before.before.before.before) c.before.before.before.before.before.before.before.if2.false
-    _ _ c.before.before.before.before.before.question2.new.1.1.0 (right t c.before.before.before.before) (sym c.before.before.before.byte-at2.ensures ∙ c.before.before.if4.false) _ _ c.closed.ensures.1 c.closed.ensures.0
+    let p = c.question-p.result in
+    right-pair s a.at a.rows a.t.now a.until (p % 1024) (p / 1024) c.question-p.new.t (left t c.before.before.before.before.before.before.before.before.before.before) _ (kind t c.before.before.before.before.before.before.before.before) c.if-k-eq0.false
+    _ _ c.question-q.new.t (right t c.before.before.before.before) (sym c.byte_at-2.ensures ∙ c.if-byte_at-ne41.false) _ _ c.closed.ensures.1 c.closed.ensures.0
 
 -- A question
 
@@ -304,23 +304,23 @@ question-add-pair t c = let w = c.before.before.before in omega (arith, w.requir
 
 question-pair_requires : (t : ℕ) → question-lts.Need-pair-requires (question_claims t) (question-at t) question.Post
 question-pair_requires t c κs =
-    let w = c.before.before.before in
-    let g = bracket-here (take w.args.n w.args.s.now) w.args.at (sym c.before.before.byte_at.ensures ∙ c.before.if1.true) in
+    let w = c in
+    let g = bracket-here (take w.args.n w.args.s.now) w.args.at (sym c.byte_at.ensures ∙ c.if-byte_at-eq40.true) in
     (omega (arith, w.requires, g.2), (g.2, w.requires.1.1, omega (arith, w.requires.1)))
 
-question_returns : (t : ℕ) → question-lts.Need-returns (question_claims t) (question-at t) question.Post
+question_returns : (t : ℕ) → question-lts.Need-returns-then-byte_at-eq40 (question_claims t) (question-at t) question.Post
 question_returns t c =
-    let a = c.before.before.before.before.args in
+    let a = c.args in
     let s = take a.n a.s.now in
-    let g = bracket-here s a.at (sym c.before.before.before.byte_at.ensures ∙ c.before.before.if1.true) in
-    right-same s a.at (a.at + 1) a.rows a.t.now (from s a.at) (pair_from false s (a.at + 1)) g.0 g.1 (step_of c.pair.result) c.pair.new.1.1.0 c.pair.ensures
+    let g = bracket-here s a.at (sym c.byte_at.ensures ∙ c.if-byte_at-eq40.true) in
+    right-same s a.at (a.at + 1) a.rows a.t.now (from s a.at) (pair_from false s (a.at + 1)) g.0 g.1 (step_of c.pair.result) c.pair.new.t c.pair.ensures
 
 question-atom_requires : (t : ℕ) → question-lts.Need-atom-requires (question_claims t) (question-at t) question.Post
 question-atom_requires t c κs =
-    let w = c.before.before.before in
-    (omega (arith, w.requires), (w.requires.1.0, w.requires.1.1, w.requires.1.2, λ h. c.before.if1.false (c.before.before.byte_at.ensures ∙ h)))
+    let w = c in
+    (omega (arith, w.requires), (w.requires.1.0, w.requires.1.1, w.requires.1.2, λ h. c.if-byte_at-eq40.false (c.byte_at.ensures ∙ h)))
 
-question_returns_2 : (t : ℕ) → question-lts.Need-returns-2 (question_claims t) (question-at t) question.Post
+question_returns_2 : (t : ℕ) → question-lts.Need-returns (question_claims t) (question-at t) question.Post
 question_returns_2 t c = c.atom.ensures
 
 pub +atom-pair-question-spec : {M : Type 1} → statement M

@@ -16,60 +16,60 @@ short : (c : tie.Start) → length (take c.args.n c.args.s.now) ≤ 400
 short c = take_short c.args.n c.args.s.now c.requires.1
 
 -- the first number
-first : (c : tie.Else1) → let a = c.before.before.args in RightNumber (take a.n a.s.now) a.at (read (c.before.number.result % 1024) (c.before.number.result / 1024))
-first c = let a = c.before.before.args in number_read (take a.n a.s.now) a.at _ c.before.number.ensures c.if1.false
+first : (c : tie.Else-i-lt1024) → let a = c.args in RightNumber (take a.n a.s.now) a.at (read (c.number-i.result % 1024) (c.number-i.result / 1024))
+first c = let a = c.args in number_read (take a.n a.s.now) a.at _ c.number-i.ensures c.if-i-lt1024.false
 
 -- then =
-equals : (c : tie.Else2) → let a = c.before.before.before.before.args in get_or (take a.n a.s.now) (c.before.before.before.number.result % 1024) 0 ≡ 61
-equals c = sym c.before.byte_at.ensures ∙ c.if2.false
+equals : (c : tie.Else-byte_at-ne61) → let a = c.args in get_or (take a.n a.s.now) (c.number-i.result % 1024) 0 ≡ 61
+equals c = sym c.byte_at.ensures ∙ c.if-byte_at-ne61.false
 
 -- then r or c
-kind : (c : tie.After-side) → let a = c.before.before.before.before.before.before.args in c.side.result ≡ side_kind (get_or (take a.n a.s.now) (c.before.before.before.before.before.number.result % 1024 + 1) 0)
-kind c = c.side.ensures ∙ ap side_kind c.before.byte-at2.ensures
+kind : (c : tie.After-side-k) → let a = c.args in c.side-k.result ≡ side_kind (get_or (take a.n a.s.now) (c.number-i.result % 1024 + 1) 0)
+kind c = c.side-k.ensures ∙ ap side_kind c.byte_at-2.ensures
 
-inside : (c : tie.Else3) → let a = c.before.before.before.before.before.before.before.args in c.before.before.before.before.before.before.number.result % 1024 + 1 < length (take a.n a.s.now)
-inside c = let a = c.before.before.before.before.before.before.before.args in side_in (take a.n a.s.now) (c.before.before.before.before.before.before.number.result % 1024 + 1) _ (kind c.before) c.if3.false
+inside : (c : tie.Else-k-eq0) → let a = c.args in c.number-i.result % 1024 + 1 < length (take a.n a.s.now)
+inside c = let a = c.args in side_in (take a.n a.s.now) (c.number-i.result % 1024 + 1) _ (kind c.before) c.if-k-eq0.false
 
-returns : tie.Need-returns
+returns : tie.Need-returns-then-i-lt1024
 returns c =
-    let a = c.before.before.args in
+    let a = c.args in
     let s = take a.n a.s.now in
-    let (f, l) = number-stopped s a.at _ c.before.number.ensures c.if1.true in
-    right-stop s a.at a.rows a.t.now (equation_from s a.at) _ _ a.t.now (step-stopped _ c.if1.true) (equation_stops_1 s a.at _ f) l
+    let (f, l) = number-stopped s a.at _ c.number-i.ensures c.if-i-lt1024.true in
+    right-stop s a.at a.rows a.t.now (equation_from s a.at) _ _ a.t.now (step-stopped _ c.if-i-lt1024.true) (equation_stops_1 s a.at _ f) l
 
-returns-2 : tie.Need-returns-2
+returns-2 : tie.Need-returns-then-byte_at-ne61
 returns-2 c =
-    let a = c.before.before.before.before.args in
+    let a = c.args in
     let s = take a.n a.s.now in
     let (f, h, l) = first c.before.before in
-    right-stop s a.at a.rows a.t.now (equation_from s a.at) _ _ a.t.now (step-stopped _ (omega arith)) (equation_stops_2 s a.at _ _ f l (λ e. c.if2.true (c.before.byte_at.ensures ∙ e))) l
+    right-stop s a.at a.rows a.t.now (equation_from s a.at) _ _ a.t.now (step-stopped _ (omega arith)) (equation_stops_2 s a.at _ _ f l (λ e. c.if-byte_at-ne61.true (c.byte_at.ensures ∙ e))) l
 
-returns-3 : tie.Need-returns-3
+returns-3 : tie.Need-returns-then-k-eq0
 returns-3 c =
-    let a = c.before.before.before.before.before.before.before.args in
+    let a = c.args in
     let s = take a.n a.s.now in
     let e = equals c.before.before.before in
-    let l : c.before.before.before.before.before.before.number.result % 1024 < length s = in_list s (c.before.before.before.before.before.before.number.result % 1024) 60 e in
+    let l : c.number-i.result % 1024 < length s = in_list s (c.number-i.result % 1024) 60 e in
     right-stop s a.at a.rows a.t.now (equation_from s a.at) _ _ a.t.now (step-stopped _ (omega (arith, short c.before.before.before.before.before.before.before)))
-    (equation_stops_3 s a.at _ _ (first c.before.before.before.before.before).0 e (omega arith) (sym (kind c.before) ∙ c.if3.true)) (omega arith)
+    (equation_stops_3 s a.at _ _ (first c.before.before.before.before.before).0 e (omega arith) (sym (kind c.before) ∙ c.if-k-eq0.true)) (omega arith)
 
-number-requires-2 : tie.Need-number-requires-2
-number-requires-2 c κs = omega (arith, c.before.before.before.before.before.before.before.requires, inside c)
+number-requires-2 : tie.Need-number-j-requires
+number-requires-2 c κs = omega (arith, c.requires, inside c)
 
-returns-4 : tie.Need-returns-4
+returns-4 : tie.Need-returns-then-j-lt1024
 returns-4 c =
-    let a = c.before.before.before.before.before.before.before.before.before.args in
+    let a = c.args in
     let s = take a.n a.s.now in
-    right-equation_broken s a.at a.rows a.t.now _ _ _ _ (first c.before.before.before.before.before.before.before) (equals c.before.before.before.before.before) (kind c.before.before.before) c.before.before.if3.false (number-stopped s _ _ c.before.number2.ensures c.if4.true) _ a.t.now (step-stopped _ c.if4.true)
+    right-equation_broken s a.at a.rows a.t.now _ _ _ _ (first c.before.before.before.before.before.before.before) (equals c.before.before.before.before.before) (kind c.before.before.before) c.if-k-eq0.false (number-stopped s _ _ c.number-j.ensures c.if-j-lt1024.true) _ a.t.now (step-stopped _ c.if-j-lt1024.true)
 
 closed-requires : tie.Need-closed-requires
-closed-requires c κs = omega (arith, c.before.before.before.before.before.before.before.before.before.before.requires, short c.before.before.before.before.before.before.before.before.before.before)
+closed-requires c κs = omega (arith, c.requires, short c.before.before.before.before.before.before.before.before.before.before)
 
-returns-5 : tie.Need-returns-5
+returns-5 : tie.Need-returns
 returns-5 c =
-    let a = c.before.before.before.before.before.before.before.before.before.before.before.args in
+    let a = c.args in
     let s = take a.n a.s.now in
-    right-equation s a.at a.rows a.t.now _ _ _ _ _ (first c.before.before.before.before.before.before.before.before.before) (equals c.before.before.before.before.before.before.before) (kind c.before.before.before.before.before) c.before.before.before.before.if3.false (number_read s _ _ c.before.before.before.number2.ensures c.before.before.if4.false)
+    right-equation s a.at a.rows a.t.now _ _ _ _ _ (first c.before.before.before.before.before.before.before.before.before) (equals c.before.before.before.before.before.before.before) (kind c.before.before.before.before.before) c.if-k-eq0.false (number_read s _ _ c.number-j.ensures c.if-j-lt1024.false)
     _ _ c.closed.ensures.1 c.closed.ensures.0
 
 pub equation_spec : {M : Type 1} → statement M

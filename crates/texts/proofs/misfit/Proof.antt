@@ -11,35 +11,35 @@ use borrow.Author.Rules.{rules}
 use Rattle.texts.proofs.misfit.Statement.{statement}
 use Rattle.texts.proofs.misfit.Tie as tie
 
-abbrev invariant-loop : tie.invariant-loop
+abbrev invariant-loop : tie.invariant-loop-i
 invariant-loop c t n i₀ i = (i ≤ n) × (first_misfit c 0 (rows_of t n) ≡ first_misfit c i (map (row_at t) (up_from i (n - i))))
 
-abbrev decreases-loop : tie.decreases-loop
+abbrev decreases-loop : tie.decreases-loop-i
 decreases-loop c t n i₀ i = n - i
 
-loop-holds : tie.Need-loop-init invariant-loop decreases-loop
+loop-holds : tie.Need-loop-i-init invariant-loop decreases-loop
 loop-holds c =
-    let a = c.before.args in
+    let a = c.args in
     let z : a.n - 0 ≡ a.n = omega arith in
     (omega arith, ap (λ m. first_misfit a.c 0 (map (row_at a.t.now) (up_from 0 m))) (sym z))
 
-returns : tie.Need-returns invariant-loop decreases-loop
+returns : tie.Need-returns-then-judge_row-ne0 invariant-loop decreases-loop
 returns c =
-    let a = c.before.before.before.before.before.before.before.before.args in
-    let v = c.before.before.before.before.before.before.loop in
-    sym (v.invariant.1 ∙ misfit_here a.c a.t.now v.i a.n c.before.before.before.before.before.loop-test.true (λ e. c.if1.true (c.before.judge-row.ensures ∙ e)))
+    let a = c.args in
+    let v = c.loop-i in
+    sym (v.invariant.1 ∙ misfit_here a.c a.t.now v.i a.n c.loop-i-test.true (λ e. c.if-judge_row-ne0.true (c.judge_row.ensures ∙ e)))
 
-loop-again : tie.Need-loop-preserved invariant-loop decreases-loop
+loop-again : tie.Need-loop-i-preserved invariant-loop decreases-loop
 loop-again c =
-    let a = c.before.before.before.before.before.before.before.before.args in
-    let v = c.before.before.before.before.before.before.loop in
-    (omega arith, v.invariant.1 ∙ misfit_more a.c a.t.now v.i a.n c.before.before.before.before.before.loop-test.true (sym c.before.judge-row.ensures ∙ c.if1.false))
+    let a = c.args in
+    let v = c.loop-i in
+    (omega arith, v.invariant.1 ∙ misfit_more a.c a.t.now v.i a.n c.loop-i-test.true (sym c.judge_row.ensures ∙ c.if-judge_row-ne0.false))
 
-returns-2 : tie.Need-returns-2 invariant-loop decreases-loop
+returns-2 : tie.Need-returns invariant-loop decreases-loop
 returns-2 c =
-    let a = c.before.before.before.args in
-    let v = c.before.loop in
-    sym (v.invariant.1 ∙ misfit_none a.c a.t.now v.i a.n c.loop-test.false)
+    let a = c.args in
+    let v = c.loop-i in
+    sym (v.invariant.1 ∙ misfit_none a.c a.t.now v.i a.n c.loop-i-test.false)
 
 pub misfit_spec : {M : Type 1} → statement M
 misfit_spec =

@@ -13,17 +13,17 @@ use Rattle.texts.proofs.number.Tie as tie
 short : (c : tie.Start) → length (take c.args.n c.args.s.now) ≤ 400
 short c = take_short c.args.n c.args.s.now c.requires.1
 
-returns : tie.Need-returns
+returns : tie.Need-returns-then-b-lt49
 returns c =
-    let a = c.before.before.args in
+    let a = c.args in
     let s = take a.n a.s.now in
-    subst⁻¹ (RightNumber s a.at) (step-stopped a.at (omega (arith, short c.before.before))) (number-low s a.at _ c.before.byte_at.ensures c.before.before.requires.0 c.if1.true)
+    subst⁻¹ (RightNumber s a.at) (step-stopped a.at (omega (arith, short c.before.before))) (number-low s a.at _ c.byte_at-b.ensures c.requires.0 c.if-b-lt49.true)
 
-returns-2 : tie.Need-returns-2
+returns-2 : tie.Need-returns-then-b-gt57
 returns-2 c =
-    let a = c.before.before.before.args in
+    let a = c.args in
     let s = take a.n a.s.now in
-    subst⁻¹ (RightNumber s a.at) (step-stopped a.at (omega (arith, short c.before.before.before))) (number_high s a.at _ c.before.before.byte_at.ensures c.before.before.before.requires.0 c.if2.true)
+    subst⁻¹ (RightNumber s a.at) (step-stopped a.at (omega (arith, short c.before.before.before))) (number_high s a.at _ c.byte_at-b.ensures c.requires.0 c.if-b-gt57.true)
 
 add-next : tie.Need-overflow_add-next
 add-next c = omega (arith, short c.before.before.before)
@@ -31,32 +31,32 @@ add-next c = omega (arith, short c.before.before.before)
 read-requires : tie.Need-read-requires
 read-requires c κs = omega (arith, short c.before.before.before.before.before)
 
-returns-3 : tie.Need-returns-3
+returns-3 : tie.Need-returns-then-c-lt48
 returns-3 c =
-    let a = c.before.before.before.before.before.before.args in
+    let a = c.args in
     let s = take a.n a.s.now in
-    subst⁻¹ (RightNumber s a.at) c.read.ensures (number-one s a.at _ c.before.before.before.before.before.byte_at.ensures _ c.before.before.byte-at2.ensures c.before.before.before.before.if1.false c.before.before.before.if2.false (digit_low _ c.before.if3.true))
+    subst⁻¹ (RightNumber s a.at) c.read.ensures (number-one s a.at _ c.byte_at-b.ensures _ c.byte_at-c.ensures c.if-b-lt49.false c.if-b-gt57.false (digit_low _ c.if-c-lt48.true))
 
-read-requires-2 : tie.Need-read-requires-2
+read-requires-2 : tie.Need-read-requires-then-c-gt57
 read-requires-2 c κs = omega (arith, short c.before.before.before.before.before.before)
 
-returns-4 : tie.Need-returns-4
+returns-4 : tie.Need-returns-then-c-gt57
 returns-4 c =
-    let a = c.before.before.before.before.before.before.before.args in
+    let a = c.args in
     let s = take a.n a.s.now in
-    subst⁻¹ (RightNumber s a.at) c.read2.ensures (number-one s a.at _ c.before.before.before.before.before.before.byte_at.ensures _ c.before.before.before.byte-at2.ensures c.before.before.before.before.before.if1.false c.before.before.before.before.if2.false (digit_high _ c.before.if4.true))
+    subst⁻¹ (RightNumber s a.at) c.read-then-c-gt57.ensures (number-one s a.at _ c.byte_at-b.ensures _ c.byte_at-c.ensures c.if-b-lt49.false c.if-b-gt57.false (digit_high _ c.if-c-gt57.true))
 
-add_read : tie.Need-overflow_add-read
+add_read : tie.Need-overflow_add-next-2
 add_read c = omega (arith, short c.before.before.before.before.before.before)
 
-read-requires-3 : tie.Need-read-requires-3
+read-requires-3 : tie.Need-read-requires-2
 read-requires-3 c κs = omega (arith, short c.before.before.before.before.before.before)
 
-returns-5 : tie.Need-returns-5
+returns-5 : tie.Need-returns
 returns-5 c =
-    let a = c.before.before.before.before.before.before.before.args in
+    let a = c.args in
     let s = take a.n a.s.now in
-    subst⁻¹ (RightNumber s a.at) c.read3.ensures (number_two s a.at _ c.before.before.before.before.before.before.byte_at.ensures _ c.before.before.before.byte-at2.ensures c.before.before.before.before.before.if1.false c.before.before.before.before.if2.false c.before.before.if3.false c.before.if4.false)
+    subst⁻¹ (RightNumber s a.at) c.read-2.ensures (number_two s a.at _ c.byte_at-b.ensures _ c.byte_at-c.ensures c.if-b-lt49.false c.if-b-gt57.false c.if-c-lt48.false c.if-c-gt57.false)
 
 pub number_spec : {M : Type 1} → statement M
 number_spec =

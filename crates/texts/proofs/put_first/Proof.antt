@@ -6,13 +6,13 @@ use borrow.Author.Rules.{rules}
 use Rattle.texts.proofs.put_first.Statement.{statement}
 use Rattle.texts.proofs.put_first.Tie as tie
 
-returns : tie.Need-returns
+returns : tie.Need-returns-then-n-lt32
 unfolding put_first
-returns c = rw (lt-ltb _ 32 c.before.before.if1.true) c.put-question-row.ensures
+returns c = rw (lt-ltb _ 32 c.if-n-lt32.true) c.put_question_row.ensures
 
-returns-2 : tie.Need-returns-2
+returns-2 : tie.Need-returns-else-n-lt32
 unfolding put_first
-returns-2 c = rw (le-ltb _ 32 c.if1.false) refl
+returns-2 c = rw (le-ltb _ 32 c.if-n-lt32.false) refl
 
 pub put_first_spec : {M : Type 1} → statement M
 put_first_spec =

@@ -12,27 +12,27 @@ use Rattle.texts.proofs.scan.Statement.{statement}
 use Rattle.texts.proofs.scan.Tie as tie
 
 -- a question was read
-done : (c : tie.Else1) → let a = c.before.before.before.args in let s = take a.n a.s.now in let q = c.before.question.result in Right (from s 0) s 0 0 a.t.now (read (q % 1024) (q / 1024)) c.before.question.new.1.1.0
-done c = let a = c.before.before.before.args in let s = take a.n a.s.now in right-read (from s 0) s 0 0 a.t.now _ _ c.before.question.ensures c.if1.false
+done : (c : tie.Else-q-lt1024) → let a = c.args in let s = take a.n a.s.now in let q = c.question-q.result in Right (from s 0) s 0 0 a.t.now (read (q % 1024) (q / 1024)) c.question-q.new.t
+done c = let a = c.args in let s = take a.n a.s.now in right-read (from s 0) s 0 0 a.t.now _ _ c.question-q.ensures c.if-q-lt1024.false
 
-returns : tie.Need-returns
+returns : tie.Need-returns-then-q-lt1024
 returns c =
-    let a = c.before.before.before.args in
+    let a = c.args in
     let s = take a.n a.s.now in
-    let (e, l) = right-stopped (from s 0) s 0 0 a.t.now _ _ c.before.question.ensures c.if1.true in
+    let (e, l) = right-stopped (from s 0) s 0 0 a.t.now _ _ c.question-q.ensures c.if-q-lt1024.true in
     whole_stops s _ e l
 
-returns-2 : tie.Need-returns-2
+returns-2 : tie.Need-returns-then-end-n
 returns-2 c =
-    let a = c.before.before.before.before.args in
+    let a = c.args in
     let r = done c.before in
-    whole_more (take a.n a.s.now) r.0 (c.before.before.question.result % 1024) r.1 (omega (arith, length-take a.n a.s.now))
+    whole_more (take a.n a.s.now) r.0 (c.question-q.result % 1024) r.1 (omega (arith, length-take a.n a.s.now))
 
-returns-3 : tie.Need-returns-3
+returns-3 : tie.Need-returns
 returns-3 c =
-    let a = c.before.before.before.before.args in
+    let a = c.args in
     let r = done c.before in
-    (r.0, whole-read (take a.n a.s.now) r.0 (c.before.before.question.result % 1024) r.1 (omega (arith, length-take a.n a.s.now)), r.2 ∙ omega arith, r.3)
+    (r.0, whole-read (take a.n a.s.now) r.0 (c.question-q.result % 1024) r.1 (omega (arith, length-take a.n a.s.now)), r.2 ∙ omega arith, r.3)
 
 pub scan_spec : {M : Type 1} → statement M
 scan_spec =
