@@ -100,7 +100,7 @@ breaks t w p (e, l) =
     right-stop s a.at a.rows a.t.now (from s a.at) p _ a.t.now (step-stopped _ (omega (arith, short t w))) e l
 
 atom-add-next : (t : ℕ) → atom-lts.Need-overflow_add-next (atom_claims t) (atom-at t) atom.Post
-atom-add-next t c = let w = c in omega (arith, w.requires.1, short t w)
+atom-add-next t c = let w = c in omega (arith, w.requires.1, short t w.before)
 
 -- the operator !
 opens_not : (t : ℕ) (c : atom-lts.Then-b-eq33 (atom_claims t) (atom-at t) atom.Post) → let a = c.args in Opens (take a.n a.s.now) a.at 4 (a.at + 1)
@@ -117,7 +117,7 @@ atom_prefixed_requires t c κs =
     let w = c in
     let a = w.args in
     let s = take a.n a.s.now in
-    right-few (from s (a.at + 1)) s (a.at + 1) a.rows a.t.now _ _ c.question-q.ensures (omega (arith, w.requires.1)) (short t w)
+    right-few (from s (a.at + 1)) s (a.at + 1) a.rows a.t.now _ _ c.question-q.ensures (omega (arith, w.requires.1)) (short t w.before.before.before.before.before)
 
 atom_returns : (t : ℕ) → atom-lts.Need-returns-then-b-eq33 (atom_claims t) (atom-at t) atom.Post
 atom_returns t c =
@@ -158,7 +158,7 @@ operator : (t : ℕ) (c : atom-lts.After-prefix-k (atom_claims t) (atom-at t) at
 operator t c = c.prefix-k.ensures ∙ ap₂ prefix_kind c.byte_at-b.ensures c.byte_at-c.ensures
 
 atom-add-pair : (t : ℕ) → atom-lts.Need-overflow_add-next-then-c-eq40 (atom_claims t) (atom-at t) atom.Post
-atom-add-pair t c = let w = c in omega (arith, w.requires.1, short t w)
+atom-add-pair t c = let w = c in omega (arith, w.requires.1, short t w.before.before.before.before.before.before.before.before.before.before)
 
 atom-pair_requires : (t : ℕ) → atom-lts.Need-pair-requires (atom_claims t) (atom-at t) atom.Post
 atom-pair_requires t c κs =
@@ -178,14 +178,14 @@ atom_returns_5 t c =
     let w = c in
     let a = w.args in
     let s = take a.n a.s.now in
-    breaks t w (a.at + 1) (exists_breaks s a.at (sym c.byte_at-b.ensures ∙ c.if-b-eq69.true) (sym (operator t c.before.before.before) ∙ c.if-k-eq0.true) (λ h. c.if-c-eq40.false (c.byte_at-c.ensures ∙ h)))
+    breaks t w.before.before.before.before.before.before.before.before.before (a.at + 1) (exists_breaks s a.at (sym c.byte_at-b.ensures ∙ c.if-b-eq69.true) (sym (operator t c.before.before.before) ∙ c.if-k-eq0.true) (λ h. c.if-c-eq40.false (c.byte_at-c.ensures ∙ h)))
 
 atom_returns_6 : (t : ℕ) → atom-lts.Need-returns-then-b-eq65 (atom_claims t) (atom-at t) atom.Post
 atom_returns_6 t c =
     let w = c in
     let a = w.args in
     let s = take a.n a.s.now in
-    breaks t w (a.at + 1) (always_breaks s a.at (sym c.byte_at-b.ensures ∙ c.if-b-eq65.true) (sym (operator t c.before.before.before) ∙ c.if-k-eq0.true))
+    breaks t w.before.before.before.before.before.before.before.before.before (a.at + 1) (always_breaks s a.at (sym c.byte_at-b.ensures ∙ c.if-b-eq65.true) (sym (operator t c.before.before.before) ∙ c.if-k-eq0.true))
 
 atom_returns_7 : (t : ℕ) → atom-lts.Need-returns-then-k-eq0 (atom_claims t) (atom-at t) atom.Post
 atom_returns_7 t c =
@@ -193,14 +193,14 @@ atom_returns_7 t c =
     let a = w.args in
     let s = take a.n a.s.now in
     let b = c.byte_at-b.ensures in
-    breaks t w a.at (none_here s a.at w.requires.1.0 w.requires.1.3 (λ h. c.if-b-eq33.false (b ∙ h)) (λ h. c.if-b-eq76.false (b ∙ h)) (λ h. c.if-b-eq114.false (b ∙ h)) (λ h. c.if-b-eq69.false (b ∙ h)) (λ h. c.if-b-eq65.false (b ∙ h)))
+    breaks t w.before.before.before.before.before.before.before.before.before a.at (none_here s a.at w.requires.1.0 w.requires.1.3 (λ h. c.if-b-eq33.false (b ∙ h)) (λ h. c.if-b-eq76.false (b ∙ h)) (λ h. c.if-b-eq114.false (b ∙ h)) (λ h. c.if-b-eq69.false (b ∙ h)) (λ h. c.if-b-eq65.false (b ∙ h)))
 
 -- the operator of two bytes
 opens_two : (t : ℕ) (c : atom-lts.Else-k-eq0 (atom_claims t) (atom-at t) atom.Post) → let a = c.args in Opens (take a.n a.s.now) a.at c.prefix-k.result (a.at + 1 + 1)
 opens_two t c = let a = c.args in prefix_here (take a.n a.s.now) a.at _ (operator t c.before) c.if-k-eq0.false
 
 atom-add-question : (t : ℕ) → atom-lts.Need-overflow_add-next-2 (atom_claims t) (atom-at t) atom.Post
-atom-add-question t c = let w = c in omega (arith, w.requires.1, short t w)
+atom-add-question t c = let w = c in omega (arith, w.requires.1, short t w.before.before.before.before.before.before.before.before)
 
 atom-question_requires_2 : (t : ℕ) → atom-lts.Need-question-q-requires-2 (atom_claims t) (atom-at t) atom.Post
 atom-question_requires_2 t c κs =
@@ -213,7 +213,7 @@ atom_prefixed_requires_2 t c κs =
     let w = c in
     let a = w.args in
     let s = take a.n a.s.now in
-    right-few (from s (a.at + 1 + 1)) s (a.at + 1 + 1) a.rows a.t.now _ _ c.question-q-2.ensures (omega (arith, w.requires.1)) (short t w)
+    right-few (from s (a.at + 1 + 1)) s (a.at + 1 + 1) a.rows a.t.now _ _ c.question-q-2.ensures (omega (arith, w.requires.1)) (short t w.before.before.before.before.before.before.before.before.before.before)
 
 atom_returns_8 : (t : ℕ) → atom-lts.Need-returns (atom_claims t) (atom-at t) atom.Post
 atom_returns_8 t c =

@@ -30,11 +30,11 @@ copied : (s z : List ℕ) {out : List ℕ} → out ≡ take (length s) s ++ drop
 copied s z e = ap (take (length s)) (e ∙ ap (λ x. x ++ drop (length s) z) (take_all (length s) s (omega arith))) ∙ take-append_seam s (drop (length s) z)
 
 scan-requires : tie.Need-scan-requires
-scan-requires c κs = let s = c.args.s.now in (omega arith, omega (arith, length-take (length s) c.before.before.before.copy_from_slice.new.self.0, ap length (copied s _ c.before.before.before.copy.ensures.1)))
+scan-requires c κs = let s = c.args.s.now in (omega arith, omega (arith, length-take (length s) c.before.before.before.copy.new.1.0, ap length (copied s _ c.before.before.before.copy.ensures.1)))
 
 -- what is read of the copy is read of the text
 told : (c : tie.After-scan) → RightText c.args.s.now no_rows c.scan.result c.scan.new.t
-told c = subst (λ s. RightText s no_rows c.scan.result c.scan.new.t) (copied _ _ c.before.before.before.before.copy_from_slice.ensures.1) c.scan.ensures
+told c = subst (λ s. RightText s no_rows c.scan.result c.scan.new.t) (copied _ _ c.before.before.before.before.copy.ensures.1) c.scan.ensures
 
 -- the text, once it is read to its end
 scanned : (c : tie.In-Whole-2) → RightText c.args.s.now no_rows (Whole c.n-1.given.0.0) c.scan.new.t
