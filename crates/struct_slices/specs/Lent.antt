@@ -7,10 +7,10 @@ use Rattle.std.specs.Prelude.{◌≡◌, ℕ, zero, suc, ◌+◌, List, [], ◌�
 use Rattle.std.proofs.Math.Path.{refl}
 use Rattle.std.proofs.Common.{sym}
 use seplogic.Ra.Ura.{Ura}
-use seplogic.Ra.TreeShare.{full_share}
 use mir.Syntax.{ty_array}
 use mir.Val.{Val}
 use base.Logic.{ent, sep}
+use base.Fraction.{full_share}
 use base.Fml.{Share, Fml, ftrue, fsep, fat, froom}
 use types.Logic.{Logic, sem}
 use types.Kit.{‵, ◌$◌, ◌∵◌, !, ◌⊛◌, qed, move, drop, use1, use2, split, rewrite, fsplit, fjoin, fpick, fpack, feq_i, done}

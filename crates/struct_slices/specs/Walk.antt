@@ -16,7 +16,7 @@ use types.Logic.{Logic, sem}
 use contract.Monad.{fact, fact_i}
 use types.Kit.{Item, Goal, Soaks, Seq, Post, post, prop, runs, ‵, raw, ◌⊛◌, some, later, ◌$◌, ◌∵◌, !, qed, use0, use1, move, split, join, fjoin, pick, await, done}
 use types.Run.{Opd, first, branches, skips, jumps}
-use denote.RattleType.{RattleType, Denots, Valss, owns}
+use denote.RattleType.{RattleType, RowLaws, Denots, Valss, owns}
 use denote.Laws.{Is, Ises, Are, Makess, shows, owns_make}
 use denote.Signature.{Slot, type_at}
 use Rattle.std.specs.Borrow.{Bor}
@@ -51,13 +51,13 @@ pub asks : {M : Type 1} {𝓤 : Ura M} (𝓛 : Logic 𝓤) (Rs : List RattleType
     → ent 𝓤 (emp 𝓤) (sep 𝓤 (sep 𝓤 (emp 𝓤) (sem 𝓛 (owns Rs a vss))) (emp 𝓤))
 asks {𝓤 = 𝓤} 𝓛 Rs mk a vss are = via 𝓤 (sep 𝓤 (emp 𝓤) (emp 𝓤)) (emp∗ 𝓤 (emp 𝓤)) (mono∗ 𝓤 (via 𝓤 (sep 𝓤 (emp 𝓤) (emp 𝓤)) (emp∗ 𝓤 (emp 𝓤)) (mono_r 𝓤 (emp 𝓤) (owns_make 𝓛 Rs (Ises Rs) mk a vss are))) (id⊢ 𝓤 (emp 𝓤)))
 
-pub asks-lent : {M : Type 1} {𝓤 : Ura M} (𝓛 : Logic 𝓤) (κ : Lft) (q : Share) (R : RattleType) (x : Bor (List R.Denot)) (vs : List Val)
+pub asks-lent : {M : Type 1} {𝓤 : Ura M} (𝓛 : Logic 𝓤) (κ : Lft) (q : Share) (R : RattleType) → RowLaws R → (x : Bor (List R.Denot)) (vs : List Val)
     (Rs : List RattleType) → Makess 𝓛 Rs (Ises Rs) → (a : Denots Rs) (vss : Valss Rs) → Are Rs (Ises Rs) a vss → {φ : Type 0} → φ
     → ent 𝓤 (sep 𝓤 (𝓛.A.lft κ q) (sem 𝓛 ((ShrSlice (named 0) κ R).own_val x vs)))
     (sep 𝓤 (sep 𝓤 (sep 𝓤 (sep 𝓤 (𝓛.A.lft κ q) (emp 𝓤)) (sem 𝓛 (owns (ShrSlice (named 0) κ R ∷ Rs) (x, a) (vs, vss)))) (fact 𝓤 φ)) (sem 𝓛 ((ShrSlice (named 0) κ R).own_val x vs)))
-asks-lent {𝓤 = 𝓤} 𝓛 κ q R x vs Rs mk a vss are {φ} holds =
+asks-lent {𝓤 = 𝓤} 𝓛 κ q R laws x vs Rs mk a vss are {φ} holds =
     qed 𝓛 (‵ (flft κ q) ∷ ‵ ((ShrSlice (named 0) κ R).own_val x vs) ∷ []) ∵ move ! (1 ∷ []) $
-    use1 𝓛 (‵ ((ShrSlice (named 0) κ R).own_val x vs) ⊛ ‵ ((ShrSlice (named 0) κ R).own_val x vs)) ((shr_slice_copy 𝓛 (named 0) κ R).twice x vs) $ split ! $
+    use1 𝓛 (‵ ((ShrSlice (named 0) κ R).own_val x vs) ⊛ ‵ ((ShrSlice (named 0) κ R).own_val x vs)) ((shr_slice_copy 𝓛 (named 0) κ R laws).twice x vs) $ split ! $
     use0 𝓛 (‵ (owns Rs a vss)) (owns_make 𝓛 Rs (Ises Rs) mk a vss are) $ move ! (1 ∷ 0 ∷ []) $ fjoin ! $ nothing ! $ move ! (3 ∷ 0 ∷ []) $ join ! $ join ! $ use0 𝓛 (raw (fact 𝓤 φ)) (fact_i 𝓤 φ (emp 𝓤) holds) $ move ! (1 ∷ 0 ∷ []) $ join ! $ done !
 
 module _ {M : Type 1} {𝓤 : Ura M} {𝓛 : Logic 𝓤} {K : Type 0} {Γ : List (Item 𝓤)} {G : Goal 𝓤 𝓛.H} where
