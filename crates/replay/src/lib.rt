@@ -1,4 +1,5 @@
 // Judges a run: good, or the first bad moment, 0 for the start.
+#![tactic(auto)]
 
 ghost use Rattle.std.specs.Prelude.{◌≡◌, ◌&&◌, ℕ, ◌≤◌, ◌<◌, eqb, length, get_or, take};
 ghost use Rattle.forms.specs.FormAutomaton.{automaton_of};

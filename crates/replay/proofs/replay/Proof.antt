@@ -13,30 +13,30 @@ use borrow.Author.Rules.{rules}
 use Rattle.replay.proofs.replay.Statement.{statement}
 use Rattle.replay.proofs.replay.Tie as tie
 
-abbrev invariant-loop : tie.invariant-loop
+abbrev invariant-loop : tie.invariant-loop-i
 invariant-loop form run p₀ moment₀ i₀ p moment i = (5 ≤ i) × (i ≤ length run) × ((length run - i) % 9 ≡ 0) × (moment < i) × (through (automaton_of form) p (moment + 1) (steps_at i run) ≡ through (automaton_of form) p₀ 1 (steps_in run))
 
-abbrev decreases-loop : tie.decreases-loop
+abbrev decreases-loop : tie.decreases-loop-i
 decreases-loop form run p₀ moment₀ i₀ p moment i = length run - i
 
-loop-holds : tie.Need-loop-init invariant-loop decreases-loop
+loop-holds : tie.Need-loop-i-init invariant-loop decreases-loop
 loop-holds c = (omega arith, omega arith, omega arith, omega arith, refl)
 
-step-of-requires : tie.Need-step-of-requires invariant-loop decreases-loop
+step-of-requires : tie.Need-step_of-requires invariant-loop decreases-loop
 step-of-requires c κs =
-    let l = c.before.before.loop in
-    let xs = c.before.before.before.before.before.before.before.args.run.now in
-    omega (arith, length-take (length xs - l.i) (drop l.i xs), length-drop l.i xs, c.before.loop-test.true, l.invariant)
+    let l = c.loop-i in
+    let xs = c.args.run.now in
+    omega (arith, length-take (length xs - l.i) (drop l.i xs), length-drop l.i xs, c.loop-i-test.true, l.invariant)
 
-loop-again : tie.Need-loop-preserved invariant-loop decreases-loop
+loop-again : tie.Need-loop-i-preserved invariant-loop decreases-loop
 loop-again c =
-    let l = c.before.before.before.before.loop in
-    let t = c.before.before.before.before.before.before.before.before.before.args.form.now in
-    let xs = c.before.before.before.before.before.before.before.before.before.args.run.now in
-    let i : l.i < length xs = c.before.before.before.loop-test.true in
+    let l = c.loop-i in
+    let t = c.args.form.now in
+    let xs = c.args.run.now in
+    let i : l.i < length xs = c.loop-i-test.true in
     let part : take (length xs - l.i) (drop l.i xs) ≡ drop l.i xs = take_all (length xs - l.i) (drop l.i xs) (omega (arith, length-drop l.i xs)) in
-    let step = c.before.step_of_lem.ensures ∙ ap step_from part in
-    let p = c.advance.ensures ∙ ap (advanced (automaton_of t) l.p (l.moment + 1)) step in (
+    let step = c.step_of.ensures ∙ ap step_from part in
+    let p = c.advance-p.ensures ∙ ap (advanced (automaton_of t) l.p (l.moment + 1)) step in (
       omega arith,
       omega (arith, l.invariant),
       omega (arith, l.invariant),
@@ -47,12 +47,12 @@ loop-again c =
 
 returns : tie.Need-returns invariant-loop decreases-loop
 returns c =
-    let l = c.before.before.loop in
-    let t = c.before.before.before.before.before.before.before.args.form.now in
-    let xs = c.before.before.before.before.before.before.before.args.run.now in
-    let start = c.before.before.before.started.ensures ∙ ap (begun (automaton_of t)) c.before.before.before.before.start_of_lem.ensures in
-    c.verdict-of.ensures
-    ∙ ap judged (sym (through-end (automaton_of t) l.p (l.moment + 1) l.i xs c.before.loop-test.false) ∙ l.invariant.4
+    let l = c.loop-i in
+    let t = c.args.form.now in
+    let xs = c.args.run.now in
+    let start = c.started-p.ensures ∙ ap (begun (automaton_of t)) c.start_of.ensures in
+    c.verdict_of.ensures
+    ∙ ap judged (sym (through-end (automaton_of t) l.p (l.moment + 1) l.i xs c.loop-i-test.false) ∙ l.invariant.4
     ∙ ap (λ q. through (automaton_of t) q 1 (steps_in xs)) start) ∙ judged-through (automaton_of t) (take 5 xs) (steps_in xs)
 
 pub replay_spec : {M : Type 1} → statement M

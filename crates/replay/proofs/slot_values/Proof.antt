@@ -12,10 +12,10 @@ use Rattle.replay.proofs.slot_values.Tie as tie
 returns : tie.Need-returns
 returns c =
     let e = c.args in
-    let v : length e.t2 ≡ 5 = search rules in
-    let p : length e.t3 ≡ 3 = search rules in
-    let f : List ℕ → List ℕ = λ xs. get_or e.t1 0 0 ∷ get_or e.t1 1 0 ∷ xs in
-    ap (λ xs. f (xs ++ entries e.t3 0 3)) (whole_is 5 e.t2 v) ∙ ap (λ xs. f (e.t2 ++ xs)) (whole_is 3 e.t3 p)
+    let v : length e.contents ≡ 5 = search rules in
+    let p : length e.params ≡ 3 = search rules in
+    let f : List ℕ → List ℕ = λ xs. get_or e.constants 0 0 ∷ get_or e.constants 1 0 ∷ xs in
+    ap (λ xs. f (xs ++ entries e.params 0 3)) (whole_is 5 e.contents v) ∙ ap (λ xs. f (e.contents ++ xs)) (whole_is 3 e.params p)
 
 pub slot_values_spec : {M : Type 1} → statement M
 slot_values_spec =

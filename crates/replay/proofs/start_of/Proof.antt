@@ -16,4 +16,4 @@ start_of_spec =
     (λ c. search rules)
     (λ c. search rules)
     (λ c. search rules)
-    (λ c. sym (part-is 5 0 c.before.before.before.before.before.args.run.now (omega arith))))
+    (λ c. sym (part-is 5 0 c.args.run.now (omega arith))))

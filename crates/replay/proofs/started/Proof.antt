@@ -11,27 +11,26 @@ use Rattle.replay.proofs.started.Tie as tie
 
 returns : tie.Need-returns
 returns c =
-    let e = c.before.before.before.before.before.before.before.before.before.before in
-    let v : length e.args.t2 ≡ 5 = omega (arith, e.well-formed) in
-    start-found e.args.form.now e.requires _ c.before.before.before.before.before.before.before.constant-values.ensures e.args.t2 v
-    c.before.before.before.before.before.before.before.before.target-guard.ensures.0
-    c.before.before.before.before.before.before.slot-values.ensures
-    c.before.before.before.before.holds.ensures
-    c.before.before.registers.ensures.0
-    c.before.rest-zero.ensures
-    c.start2.ensures.0
+    let v : length c.args.start ≡ 5 = omega (arith, c.well_formed) in
+    start-found c.args.form.now c.requires _ c.constant_values.ensures c.args.start v
+    c.target_guard-guard.ensures.0
+    c.slot_values-vals.ensures
+    c.holds-met.ensures
+    c.registers.ensures.0
+    c.rest_zero-tidy.ensures
+    c.start-place.ensures.0
 
 pub started_spec : {M : Type 1} → statement M
 started_spec =
     tie.close
     (tie.spec
-    (λ c κs. let r = c.before.requires in (r.long, start-lines _ r))
+    (λ c κs. let r = c.requires in (r.long, start-lines _ r))
     (λ c κs. search rules)
     (λ c κs. search rules)
-    (λ c κs. c.before.before.before.target-guard.ensures.1)
+    (λ c κs. c.target_guard-guard.ensures.1)
     (λ c. search rules)
     (λ c κs. search rules)
     (λ c κs. search rules)
     (λ c κs. search rules)
-    (λ c. omega (arith, c.start2.ensures.2))
+    (λ c. omega (arith, c.start-place.ensures.2))
     returns)

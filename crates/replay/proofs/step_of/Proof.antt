@@ -11,7 +11,7 @@ use Rattle.replay.proofs.step_of.Tie as tie
 
 returns : tie.Need-returns
 returns c =
-    let xs = c.before.before.before.before.before.before.before.before.before.args.run.now in
+    let xs = c.args.run.now in
     sym (step-path (step_from xs) _ refl (part-is 3 1 xs (omega arith)) (part-is 5 4 xs (omega arith)))
 
 pub step_of_spec : {M : Type 1} → statement M

@@ -13,4 +13,4 @@ tidy_spec =
     (λ c κs. search rules)
     (λ c. search rules)
     (λ c κs. search rules)
-    (λ c. and_path c.before.before.rest-zero.ensures c.rest-zero2.ensures))
+    (λ c. and_path c.rest_zero.ensures c.rest_zero-2.ensures))
