@@ -1,3 +1,2 @@
-#![tactic(auto)]
-
 // Lemmas that walks by hand share, for functions over a lent slice of structs: `specs/`. The crate has no code.
+#![tactic(auto)]
