@@ -15,7 +15,7 @@ use Rattle.automata.specs.Questions.Atom.{at, equal, is}
 use Rattle.grammar.specs.Grammar.{Join, Question, size, rows_from, atom_row}
 use Rattle.grammar.specs.Grammar.Join.{conjunction, disjunction, implication}
 use Rattle.grammar.specs.Grammar.Question.{basic, joined, until}
-use Rattle.grammar.specs.Parser.{Read, paired, chain, each, value_of, token, only, Side, joins, sides, question, number}
+use Rattle.grammar.specs.Parser.{Read, paired, chain, each, value_of, token, only, Side, joins, sides, number}
 use Rattle.grammar.specs.Parser.Read.{got, stop}
 use Rattle.grammar.proofs.TextRows.{rows-size}
 use Rattle.texts.specs.Steps.{Step}

@@ -299,8 +299,8 @@ pair_returns_5 t c =
 
 -- A question
 
-question-add-pair : (t : ℕ) → question-lts.Need-overflow_add-pair (question_claims t) (question-at t) question.Post
-question-add-pair t c = let w = c.before.before.before in omega (arith, w.requires.1, take_short w.args.n w.args.s.now w.requires.1.1)
+question-add-at : (t : ℕ) → question-lts.Need-overflow_add-at (question_claims t) (question-at t) question.Post
+question-add-at t c = let w = c.before.before.before in omega (arith, w.requires.1, take_short w.args.n w.args.s.now w.requires.1.1)
 
 question-pair_requires : (t : ℕ) → question-lts.Need-pair-requires (question_claims t) (question-at t) question.Post
 question-pair_requires t c κs =
@@ -323,8 +323,8 @@ question-atom_requires t c κs =
 question_returns_2 : (t : ℕ) → question-lts.Need-returns (question_claims t) (question-at t) question.Post
 question_returns_2 t c = c.atom.ensures
 
-pub +atom-pair-question-spec : {M : Type 1} → statement M
-+atom-pair-question-spec =
+pub +atom_pair_question_spec : {M : Type 1} → statement M
++atom_pair_question_spec =
     close μ-atom μ-pair μ-question
     (λ t. atom-lts.spec (atom_claims t) (atom-at t) atom.Post
     (λ c κs. search rules)
@@ -364,7 +364,7 @@ pub +atom-pair-question-spec : {M : Type 1} → statement M
     (pair_returns_5 t))
     (λ t. question-lts.spec (question_claims t) (question-at t) question.Post
     (λ c κs. search rules)
-    (question-add-pair t)
+    (question-add-at t)
     (question-pair_requires t)
     (question_returns t)
     (question-atom_requires t)
