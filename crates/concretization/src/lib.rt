@@ -1,5 +1,7 @@
 // Runs with real identifiers along a path of configurations: the smallest move from real contents to the next configuration (the smallest parameters that fit,
 // then the smallest new contents), and with it the run along any path, in the replayer's form and as printed lines.
+#![tactic(auto)]
+
 pub mod along;
 
 ghost use Rattle.std.specs.Prelude.{◌≡◌, cond, true, ◌&&◌, [], ◌∷◌, ◌++◌, ℕ, suc, ◌+◌, ◌-◌, ◌<◌, ◌≤◌, eqb, leb, length, get_or, take};

@@ -11,18 +11,18 @@ use borrow.Author.Rules.{rules}
 use Rattle.concretization.proofs.connects.Statement.{statement}
 use Rattle.concretization.proofs.connects.Tie as tie
 
-returns : tie.Need-returns
+returns : tie.Need-returns-then-from
 returns c =
-    let e = c.before.before.before.before.args in
-    let f = c.before.before.from in
-    ap (λ b. b && eqb c.to.result e.to) (sym (eq-eqb f.result e.from c.before.if1.true))
+    let e = c.args in
+    let f = c.from in
+    ap (λ b. b && eqb c.to.result e.to) (sym (eq-eqb f.result e.from c.if-from.true))
     ∙ ap₂ (λ x y. eqb x e.from && eqb y e.to) f.ensures.0 c.to.ensures.0
 
-returns-2 : tie.Need-returns-2
+returns-2 : tie.Need-returns
 returns-2 c =
-    let e = c.before.before.before.args in
-    let f = c.before.from in
-    ap (λ b. b && eqb (transition_of (automaton_of e.form.now) (suc e.i)).to e.to) (sym (ne_eqb f.result e.from c.if1.false))
+    let e = c.args in
+    let f = c.from in
+    ap (λ b. b && eqb (transition_of (automaton_of e.form.now) (suc e.i)).to e.to) (sym (ne_eqb f.result e.from c.if-from.false))
     ∙ ap (λ x. eqb x e.from && eqb (transition_of (automaton_of e.form.now) (suc e.i)).to e.to) f.ensures.0
 
 pub connects_spec : {M : Type 1} → statement M

@@ -13,38 +13,38 @@ use borrow.Author.Rules.{rules}
 use Rattle.concretization.proofs.judge.Statement.{statement}
 use Rattle.concretization.proofs.judge.Tie as tie
 
-scan-requires : tie.Need-scan-requires
-scan-requires c κs = let e = c.before.before.before.before.before.before in (tidy_wider 2 e.args.base e.requires.1 12 (omega arith), e.requires.0.sets_fit, e.requires.0.source_fits)
+scan-requires : tie.Need-scan-written-requires
+scan-requires c κs = (tidy_wider 2 c.args.base c.requires.1 12 (omega arith), c.requires.0.sets_fit, c.requires.0.source_fits)
 
-same-entries-requires : tie.Need-same-entries-requires
+same-entries-requires : tie.Need-same_entries-requires
 same-entries-requires c κs =
-    let five : length c.before.before.before.scan.result.labels ≡ 5 = ap (λ r. length r.labels) c.before.before.before.scan.ensures ∙ padded-length 5 _ in
+    let five : length c.scan-written.result.labels ≡ 5 = ap (λ r. length r.labels) c.scan-written.ensures ∙ padded-length 5 _ in
     omega arith
 
-returns : tie.Need-returns
+returns : tie.Need-returns-then-same_entries
 unfolding found_of
 returns c =
-    let e = c.before.before.before.before.before.before.before.before.before.before.before.before.args in
-    judge-labels e.arc (known e.base) e.t3 e.t4 true (search rules) (sym c.before.before.before.before.before.before.before.before.before.holds.ensures ∙ c.before.before.before.before.before.before.before.before.if1.true) (ap (λ r. r.labels) c.before.before.before.before.before.scan.ensures) (sym c.before.same_entries.ensures ∙ c.if2.true)
+    let e = c.args in
+    judge-labels e.arc (known e.base) e.wanted e.vals true (search rules) (sym c.holds.ensures ∙ c.if-holds.true) (ap (λ r. r.labels) c.scan-written.ensures) (sym c.same_entries.ensures ∙ c.if-same_entries.true)
 
-returns-2 : tie.Need-returns-2
+returns-2 : tie.Need-returns-then-holds
 unfolding found_of
 returns-2 c =
-    let e = c.before.before.before.before.before.before.before.before.before.before.before.before.args in
-    judge-labels e.arc (known e.base) e.t3 e.t4 false (search rules) (sym c.before.before.before.before.before.before.before.before.before.holds.ensures ∙ c.before.before.before.before.before.before.before.before.if1.true) (ap (λ r. r.labels) c.before.before.before.before.before.scan.ensures) (sym c.before.same_entries.ensures ∙ c.if2.false)
+    let e = c.args in
+    judge-labels e.arc (known e.base) e.wanted e.vals false (search rules) (sym c.holds.ensures ∙ c.if-holds.true) (ap (λ r. r.labels) c.scan-written.ensures) (sym c.same_entries.ensures ∙ c.if-same_entries.false)
 
-returns-3 : tie.Need-returns-3
+returns-3 : tie.Need-returns
 unfolding found_of
 returns-3 c =
-    let e = c.before.before.before.before.args in
-    judge-guard e.arc (known e.base) e.t3 e.t4 (sym c.before.holds.ensures ∙ c.if1.false)
+    let e = c.args in
+    judge-guard e.arc (known e.base) e.wanted e.vals (sym c.holds.ensures ∙ c.if-holds.false)
 
 pub judge_spec : {M : Type 1} → statement M
 judge_spec =
     tie.close
     (tie.spec
-    (λ c κs. c.before.before.requires.0.guard-fits)
-    (λ c. omega (arith, c.before.before.before.before.before.before.requires.0.sets_fit))
+    (λ c κs. c.requires.0.guard-fits)
+    (λ c. omega (arith, c.requires.0.sets_fit))
     scan-requires
     (λ c. search rules)
     (λ c. search rules)

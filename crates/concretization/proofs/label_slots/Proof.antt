@@ -7,4 +7,4 @@ use Rattle.concretization.proofs.label_slots.Statement.{statement}
 use Rattle.concretization.proofs.label_slots.Tie as tie
 
 pub label_slots_spec : {M : Type 1} → statement M
-label_slots_spec = tie.close (tie.spec (λ c κs. search rules) (λ c κs. search rules) (λ c. c.slots.ensures ∙ ap label_slots c.before.wide-labels.ensures))
+label_slots_spec = tie.close (tie.spec (λ c κs. search rules) (λ c κs. search rules) (λ c. c.slots.ensures ∙ ap label_slots c.wide_labels.ensures))

@@ -21,50 +21,45 @@ use borrow.Author.Rules.{rules}
 use Rattle.concretization.proofs.parameters.Statement.{statement}
 use Rattle.concretization.proofs.parameters.Tie as tie
 
-labels-of-requires : tie.Need-labels-of-requires
+labels-of-requires : tie.Need-labels_of-requires
 labels-of-requires c κs =
-    let e = c.before.before.before.before in
-    (constants-tidy e.args.c e.args.constants e.requires.1 c.before.before.before.constants-seen.ensures 12 (omega (arith, e.requires.1)), e.requires.2)
+    (constants-tidy c.args.c c.args.constants c.requires.1 c.constants_seen-base.ensures 12 (omega (arith, c.requires.1)), c.requires.2)
 
-array-share-prefix-ids : tie.Need-array-share-prefix-ids
+array-share-prefix-ids : tie.Need-slice_bounds-ids-end
 array-share-prefix-ids c =
-    let e = c.before.before.before.before.before.before.before.before in
-    let h = c.before.choices.ensures in
-    let cs = take e.args.c e.args.constants in
-    omega (arith, ap (λ s. s.count) h, ap (λ s. length s.ids) h, padded-length 17 (pool 15 cs), pool-length cs, take-le e.args.c e.args.constants, e.requires.1)
+    let h = c.choices-pool.ensures in
+    let cs = take c.args.c c.args.constants in
+    omega (arith, ap (λ s. s.count) h, ap (λ s. length s.ids) h, padded-length 17 (pool 15 cs), pool-length cs, take-le c.args.c c.args.constants, c.requires.1)
 
-slice-aggregate-seek : tie.Need-slice-aggregate-seek
+slice-aggregate-seek : tie.Need-slice_bounds-seek-end
 slice-aggregate-seek c =
-    let e = c.before.before.before.before.before.before.before.before.before in
-    let s = c.before.before.choices.result in
-    let h = c.before.before.choices.ensures in
-    let cs = take e.args.c e.args.constants in
-    sym (length-take-le s.count s.ids (omega (arith, ap (λ s. s.count) h, ap (λ s. length s.ids) h, padded-length 17 (pool 15 cs), pool-length cs, take-le e.args.c e.args.constants, e.requires.1)))
+    let s = c.choices-pool.result in
+    let h = c.choices-pool.ensures in
+    let cs = take c.args.c c.args.constants in
+    sym (length-take-le s.count s.ids (omega (arith, ap (λ s. s.count) h, ap (λ s. length s.ids) h, padded-length 17 (pool 15 cs), pool-length cs, take-le c.args.c c.args.constants, c.requires.1)))
 
 seek-requires : tie.Need-seek-requires
 seek-requires c κs =
-    let e = c.before.before.before.before.before.before.before.before.before in
-    let a = e.args in
-    let s = c.before.before.before.before.before.before.before.before.constants-seen in
-    let t = constants-tidy a.c a.constants e.requires.1 s.ensures 2 e.requires.1 in
-    (e.requires.0, t, omega arith, labelled-tidy 2 s.result t (take a.r a.contents) c.before.before.before.before.labels-of.ensures 12 (omega (arith, take-le a.r a.contents, e.requires.2)) (omega arith))
+    let a = c.args in
+    let s = c.constants_seen-base in
+    let t = constants-tidy a.c a.constants c.requires.1 s.ensures 2 c.requires.1 in
+    (c.requires.0, t, omega arith, labelled-tidy 2 s.result t (take a.r a.contents) c.labels_of.ensures 12 (omega (arith, take-le a.r a.contents, c.requires.2)) (omega arith))
 
 returns : tie.Need-returns
 returns c =
-    let e = c.before.before.before.before.before.before.before.before.before.before in
-    let a = e.args in
-    let s = c.before.before.before.before.before.before.before.before.before.constants-seen in
+    let a = c.args in
+    let s = c.constants_seen-base in
     let cs = take a.c a.constants in
-    let t = constants-tidy a.c a.constants e.requires.1 s.ensures 2 e.requires.1 in
-    let ck : known s.result ≡ cs = constants-known a.c a.constants e.requires.1 s.ensures in
+    let t = constants-tidy a.c a.constants c.requires.1 s.ensures 2 c.requires.1 in
+    let ck : known s.result ≡ cs = constants-known a.c a.constants c.requires.1 s.ensures in
     let two : length a.constants ≡ 2 = omega arith in
-    let n : a.c ≡ length cs = sym (length-take-le a.c a.constants (omega (arith, e.requires.1))) in
+    let n : a.c ≡ length cs = sym (length-take-le a.c a.constants (omega (arith, c.requires.1))) in
     let tv = values_from (label_slots a.next) a.arc.target 0 a.arc.sets in
     sought-is a.arc cs (take a.r a.contents) (slots_of a.constants a.contents) a.next ck
-    (labelled-labels 2 (seen_of (up_from 1 a.c)) (marks-tidy a.c e.requires.1) tv c.before.before.before.before.before.before.before.held.ensures ∙ ap (λ z. padded 5 (labels z tv)) (marks-known a.c e.requires.1 ∙ ap (up_from 1) n))
-    (ap known c.before.before.before.choices.ensures ∙ known-seen_of (pool 15 cs) (omega (arith, pool-length cs, take-le a.c a.constants, e.requires.1)))
-    (labelled-known 2 s.result t (take a.r a.contents) c.before.before.before.before.before.labels-of.ensures (omega (arith, take-le a.r a.contents, e.requires.2)) ∙ ap (λ z. notes z (take a.r a.contents)) ck)
-    c.before.before.before.before.before.before.before.before.slots.ensures c.seek.ensures
+    (labelled-labels 2 (seen_of (up_from 1 a.c)) (marks-tidy a.c c.requires.1) tv c.held.ensures ∙ ap (λ z. padded 5 (labels z tv)) (marks-known a.c c.requires.1 ∙ ap (up_from 1) n))
+    (ap known c.choices-pool.ensures ∙ known-seen_of (pool 15 cs) (omega (arith, pool-length cs, take-le a.c a.constants, c.requires.1)))
+    (labelled-known 2 s.result t (take a.r a.contents) c.labels_of.ensures (omega (arith, take-le a.r a.contents, c.requires.2)) ∙ ap (λ z. notes z (take a.r a.contents)) ck)
+    c.slots-vals.ensures c.seek.ensures
 
 pub parameters_spec : {M : Type 1} → statement M
 parameters_spec =
@@ -72,9 +67,9 @@ parameters_spec =
     (tie.spec
     (λ c κs. search rules)
     (λ c κs. search rules)
-    (λ c κs. let e = c.before.before in (e.requires.0, e.requires.1))
+    (λ c κs. (c.requires.0, c.requires.1))
     labels-of-requires
-    (λ c κs. c.before.before.before.before.before.before.requires.1)
+    (λ c κs. c.requires.1)
     array-share-prefix-ids
     slice-aggregate-seek
     seek-requires

@@ -23,67 +23,61 @@ use Rattle.concretization.proofs.renewed.Tie as tie
 
 scan-requires : tie.Need-scan-requires
 scan-requires c κs =
-    let e = c.before.before.before in
-    (constants-tidy e.args.c e.args.constants e.requires.1 c.before.constants-seen.ensures 12 (omega (arith, e.requires.1)), e.requires.0.sets_fit, e.requires.0.source_fits)
+    (constants-tidy c.args.c c.args.constants c.requires.1 c.constants_seen.ensures 12 (omega (arith, c.requires.1)), c.requires.0.sets_fit, c.requires.0.source_fits)
 
-labels-of-requires : tie.Need-labels-of-requires
+labels-of-requires : tie.Need-labels_of-requires
 labels-of-requires c κs =
-    let e = c.before.before.before.before.before.before.before.before in
-    let a = e.args in
-    let m = c.before.before.held in
+    let a = c.args in
+    let m = c.held in
     let tv = values_from (label_slots a.next) a.arc.target 0 a.arc.sets in
-    (labelled-tidy 2 (seen_of (up_from 1 a.c)) (marks-tidy a.c e.requires.1) tv m.ensures 12 (omega (arith, values_length (label_slots a.next) a.arc.target 0 a.arc.sets, e.requires.0.sets_fit)) (omega arith), e.requires.2)
+    (labelled-tidy 2 (seen_of (up_from 1 a.c)) (marks-tidy a.c c.requires.1) tv m.ensures 12 (omega (arith, values_length (label_slots a.next) a.arc.target 0 a.arc.sets, c.requires.0.sets_fit)) (omega arith), c.requires.2)
 
-identifiers-of-requires : tie.Need-identifiers-of-requires
+identifiers-of-requires : tie.Need-identifiers_of-requires
 identifiers-of-requires c κs =
-    let e = c.before.before.before.before.before.before.before.before.before.before in
-    let a = e.args in
-    let m = c.before.before.before.before.held in
-    let s = c.before.before.before.before.before.before.before.before.constants-seen in
+    let a = c.args in
+    let m = c.held in
+    let s = c.constants_seen in
     let tv = values_from (label_slots a.next) a.arc.target 0 a.arc.sets in
     let sv = values_from a.vals a.arc.source 0 a.arc.sets in
-    let u = labelled-tidy 2 (seen_of (up_from 1 a.c)) (marks-tidy a.c e.requires.1) tv m.ensures 12 (omega (arith, values_length (label_slots a.next) a.arc.target 0 a.arc.sets, e.requires.0.sets_fit)) (omega arith) in
-    let g = e.well-formed.1.1.1.1.1.0 in
+    let u = labelled-tidy 2 (seen_of (up_from 1 a.c)) (marks-tidy a.c c.requires.1) tv m.ensures 12 (omega (arith, values_length (label_slots a.next) a.arc.target 0 a.arc.sets, c.requires.0.sets_fit)) (omega arith) in
     let five : length a.next ≡ 5 = omega arith in
-    let ls = labelled-labels 12 m.result.seen u (take a.r c.before.before.wide-labels.result) c.before.labels-of.ensures ∙ ap (λ z. padded 5 (labels (known m.result.seen) (take a.r z))) c.before.before.wide-labels.ensures in (
-      labelled-tidy 2 s.result (constants-tidy a.c a.constants e.requires.1 s.ensures 2 e.requires.1) sv c.before.before.before.before.before.before.scan.ensures 12 (omega (arith, values_length a.vals a.arc.source 0 a.arc.sets, e.requires.0.sets_fit)) (omega arith),
-      e.requires.2,
+    let ls = labelled-labels 12 m.result.seen u (take a.r c.wide_labels.result) c.labels_of.ensures ∙ ap (λ z. padded 5 (labels (known m.result.seen) (take a.r z))) c.wide_labels.ensures in (
+      labelled-tidy 2 s.result (constants-tidy a.c a.constants c.requires.1 s.ensures 2 c.requires.1) sv c.scan.ensures 12 (omega (arith, values_length a.vals a.arc.source 0 a.arc.sets, c.requires.0.sets_fit)) (omega arith),
+      c.requires.2,
       (λ i h.
-          subst⁻¹ (λ z. 1 ≤ z) (ap (λ z. get_or z i 0) ls ∙ padded-at 5 (labels (known m.result.seen) (take a.r a.next)) i (omega (arith, e.requires.2)))
-          (labels_positive (known m.result.seen) (take a.r a.next) i (omega (arith, length-take-le a.r a.next (omega (arith, e.requires.2)))))),
+          subst⁻¹ (λ z. 1 ≤ z) (ap (λ z. get_or z i 0) ls ∙ padded-at 5 (labels (known m.result.seen) (take a.r a.next)) i (omega (arith, c.requires.2)))
+          (labels_positive (known m.result.seen) (take a.r a.next) i (omega (arith, length-take-le a.r a.next (omega (arith, c.requires.2)))))),
     )
 
 returns : tie.Need-returns
 returns c =
-    let e = c.before.before.before.before.before.before.before.before.before.before.before in
-    let a = e.args in
-    let m = c.before.before.before.before.before.held in
-    let s = c.before.before.before.before.before.before.before.before.before.constants-seen in
+    let a = c.args in
+    let m = c.held in
+    let s = c.constants_seen in
     let cs = take a.c a.constants in
     let two : length a.constants ≡ 2 = omega arith in
-    let g = e.well-formed.1.1.1.1.1.0 in
     let five : length a.next ≡ 5 = omega arith in
-    let n : a.c ≡ length cs = sym (length-take-le a.c a.constants (omega (arith, e.requires.1))) in
+    let n : a.c ≡ length cs = sym (length-take-le a.c a.constants (omega (arith, c.requires.1))) in
     let tv = values_from (label_slots a.next) a.arc.target 0 a.arc.sets in
     let sv = values_from a.vals a.arc.source 0 a.arc.sets in
-    let u = labelled-tidy 2 (seen_of (up_from 1 a.c)) (marks-tidy a.c e.requires.1) tv m.ensures 12 (omega (arith, values_length (label_slots a.next) a.arc.target 0 a.arc.sets, e.requires.0.sets_fit)) (omega arith) in
+    let u = labelled-tidy 2 (seen_of (up_from 1 a.c)) (marks-tidy a.c c.requires.1) tv m.ensures 12 (omega (arith, values_length (label_slots a.next) a.arc.target 0 a.arc.sets, c.requires.0.sets_fit)) (omega arith) in
     let mk : known m.result.seen ≡ notes (up_from 1 (length cs)) tv =
-    labelled-known 2 (seen_of (up_from 1 a.c)) (marks-tidy a.c e.requires.1) tv m.ensures (omega (arith, values_length (label_slots a.next) a.arc.target 0 a.arc.sets, e.requires.0.sets_fit))
-    ∙ ap (λ z. notes z tv) (marks-known a.c e.requires.1 ∙ ap (up_from 1) n) in
-    renewed-is a.arc cs a.vals a.r a.next e.requires.2 (length-take-le a.r a.next (omega (arith, e.requires.2)))
-    (labelled-known 2 s.result (constants-tidy a.c a.constants e.requires.1 s.ensures 2 e.requires.1) sv c.before.before.before.before.before.before.before.scan.ensures (omega (arith, values_length a.vals a.arc.source 0 a.arc.sets, e.requires.0.sets_fit))
-    ∙ ap (λ z. notes z sv) (constants-known a.c a.constants e.requires.1 s.ensures))
-    (labelled-labels 12 m.result.seen u (take a.r c.before.before.before.wide-labels.result) c.before.before.labels-of.ensures ∙ ap₂ (λ z w. padded 5 (labels z (take a.r w))) mk c.before.before.before.wide-labels.ensures)
-    c.identifiers-of.ensures
+    labelled-known 2 (seen_of (up_from 1 a.c)) (marks-tidy a.c c.requires.1) tv m.ensures (omega (arith, values_length (label_slots a.next) a.arc.target 0 a.arc.sets, c.requires.0.sets_fit))
+    ∙ ap (λ z. notes z tv) (marks-known a.c c.requires.1 ∙ ap (up_from 1) n) in
+    renewed-is a.arc cs a.vals a.r a.next c.requires.2 (length-take-le a.r a.next (omega (arith, c.requires.2)))
+    (labelled-known 2 s.result (constants-tidy a.c a.constants c.requires.1 s.ensures 2 c.requires.1) sv c.scan.ensures (omega (arith, values_length a.vals a.arc.source 0 a.arc.sets, c.requires.0.sets_fit))
+    ∙ ap (λ z. notes z sv) (constants-known a.c a.constants c.requires.1 s.ensures))
+    (labelled-labels 12 m.result.seen u (take a.r c.wide_labels.result) c.labels_of.ensures ∙ ap₂ (λ z w. padded 5 (labels z (take a.r w))) mk c.wide_labels.ensures)
+    c.identifiers_of.ensures
 
 pub renewed_spec : {M : Type 1} → statement M
 renewed_spec =
     tie.close
     (tie.spec
-    (λ c κs. c.before.requires.1)
-    (λ c. omega (arith, c.before.before.before.requires.0.sets_fit))
+    (λ c κs. c.requires.1)
+    (λ c. omega (arith, c.requires.0.sets_fit))
     scan-requires
-    (λ c κs. let e = c.before.before.before.before.before in (e.requires.0, e.requires.1))
+    (λ c κs. (c.requires.0, c.requires.1))
     (λ c κs. search rules)
     labels-of-requires
     identifiers-of-requires

@@ -5,20 +5,18 @@ use borrow.Author.Rules.{rules}
 use Rattle.concretization.proofs.along.class_contents.Statement.{statement}
 use Rattle.concretization.proofs.along.class_contents.Tie as tie
 
-contents-of-requires : tie.Need-contents-of-requires
+contents-of-requires : tie.Need-contents_of-requires
 contents-of-requires c κs =
-    let e = c.before.before.before.before.before.before in
-    let a = e.args in (
-      c.before.constants.ensures.1,
-      c.registers.ensures.1,
-      labels-legal a.form.now a.cat.now a.n e.requires.0 a.k e.requires.1 _ c.before.before.before.class-row.ensures _ _ c.registers.ensures.0 c.before.constants.ensures.0,
+    let a = c.args in (
+      c.constants-c.ensures.1,
+      c.registers-r.ensures.1,
+      labels-legal a.form.now a.cat.now a.n c.requires.0 a.k c.requires.1 _ c.class_row-labels.ensures _ _ c.registers-r.ensures.0 c.constants-c.ensures.0,
     )
 
 returns : tie.Need-returns
 returns c =
-    let e = c.before.before.before.before.before.before.before in
-    let a = e.args in
-    contents-given a.form.now a.cat.now a.n e.requires.0 a.k e.requires.1 _ c.before.before.before.before.class-row.ensures _ _ c.before.registers.ensures.0 c.before.before.constants.ensures.0 _ _ c.before.before.before.constant-values.ensures c.contents-of.ensures
+    let a = c.args in
+    contents-given a.form.now a.cat.now a.n c.requires.0 a.k c.requires.1 _ c.class_row-labels.ensures _ _ c.registers-r.ensures.0 c.constants-c.ensures.0 _ _ c.constant_values-constants.ensures c.contents_of.ensures
 
 pub class_contents_spec : {M : Type 1} → statement M
 class_contents_spec =

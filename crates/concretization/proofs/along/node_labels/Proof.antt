@@ -7,16 +7,16 @@ use Rattle.concretization.proofs.Nodes.{some-class, class-below, class-is}
 use Rattle.concretization.proofs.along.node_labels.Statement.{statement}
 use Rattle.concretization.proofs.along.node_labels.Tie as tie
 
-class-row-requires : tie.Need-class-row-requires
-class-row-requires c κs = let e = c.before.before in (e.requires.0, class-below e.args.form.now e.args.cat.now e.args.n e.requires.0 e.args.node e.requires.1)
+class-row-requires : tie.Need-class_row-requires
+class-row-requires c κs = (c.requires.0, class-below c.args.form.now c.args.cat.now c.args.n c.requires.0 c.args.node c.requires.1)
 
 returns : tie.Need-returns
-returns c = let e = c.before.before.before in c.class-row.ensures ∙ ap (padded 5) (class-is e.args.form.now e.args.cat.now e.args.n e.requires.0 e.args.node e.requires.1)
+returns c = c.class_row.ensures ∙ ap (padded 5) (class-is c.args.form.now c.args.cat.now c.args.n c.requires.0 c.args.node c.requires.1)
 
 pub node_labels_spec : {M : Type 1} → statement M
 node_labels_spec =
     tie.close
     (tie.spec
-    (λ c. let e = c.before.before in omega (arith, some-class e.args.form.now e.args.cat.now e.args.n e.requires.0 e.args.node e.requires.1))
+    (λ c. omega (arith, some-class c.args.form.now c.args.cat.now c.args.n c.requires.0 c.args.node c.requires.1))
     class-row-requires
     returns)

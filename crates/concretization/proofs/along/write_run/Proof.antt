@@ -11,32 +11,30 @@ use Rattle.concretization.proofs.along.write_run.Statement.{statement}
 use Rattle.concretization.proofs.along.write_run.Tie as tie
 
 -- where the run stands at first
-stands : (c : tie.After-start) → (let e = c.before.before.before.before.before.before.before.before.before.before.before.before.before in
-    record { place = c.start.result; contents = c.before.before.before.before.before.before.contents-at.result } ≡ stand_of (initial (automaton_of e.args.form.now) (path_contents (automaton_of e.args.form.now) e.args.path.now)))
-stands c = λ i. record { place = c.start.ensures.0 i; contents = c.before.before.before.before.before.before.contents-at.ensures i }
+stands : (c : tie.After-start-place)
+    → record { place = c.start-place.result; contents = c.contents_at-contents.result } ≡ stand_of (initial (automaton_of c.args.form.now) (path_contents (automaton_of c.args.form.now) c.args.path.now))
+stands c = λ i. record { place = c.start-place.ensures.0 i; contents = c.contents_at-contents.ensures i }
 
-registers-requires : tie.Need-registers-requires
-registers-requires c κs = c.before.before.before.before.before.before.before.before.before.before.before.before.before.requires.0.readable
+registers-requires : tie.Need-registers-r-requires
+registers-requires c κs = c.requires.0.readable
 
-write-moves-requires : tie.Need-write-moves-requires
-write-moves-requires c κs =
-    let e = c.before.before.before.before.before.before.before.before.before.before.before.before.before.before.before.before.before.before.before.before.before.before in (
-      e.requires.0,
-      going_first e.args.form.now e.requires.0.readable e.args.path.now e.args.steps e.requires.1 _ (stands c.before.before.before.before.before.before.before.before.before),
-      e.requires.2,
-      omega (arith, e.requires.3, c.before.before.before.before.before.before.before.before.before.before.before.before.put.auto),
-      omega (arith, e.requires.4, c.before.before.before.before.put2.auto),
-    )
+write-moves-requires : tie.Need-write_moves-requires
+write-moves-requires c κs = (
+  c.requires.0,
+  going_first c.args.form.now c.requires.0.readable c.args.path.now c.args.steps c.requires.1 _ (stands c.before.before.before.before.before.before.before.before.before),
+  c.requires.2,
+  omega (arith, c.requires.3, c.put.auto),
+  omega (arith, c.requires.4, c.put-2.auto),
+)
 
 returns : tie.Need-returns
 returns c =
-    let k = c.before.before.before.before.before.before.before.before.before.before.before.before.before.before in
-    let e = c.before.before.before.before.before.before.before.before.before.before.before.before.before.before.before.before.before.before.before.before.before.before.before.before.before.before.before in
-    let t = e.args.form.now in
-    let w = c.before.before.before.before.write_moves.ensures in
-    let given = c.before.before.before.before.before.before.before.before.before.before.before.before.before.before.before.before.before.before.before.before.contents-at.ensures in (
-      run-done t e.requires.0.readable e.args.path.now e.args.steps e.requires.1 _ (stands k) _ given _ _ _ c.before.before.before.before.before.before.before.before.before.before.before.before.before.before.before.before.before.put.ensures w.0,
-      lines-done t e.requires.0.readable e.args.path.now e.args.steps e.requires.1 _ (stands k) _ given _ _ _ _ _ _ c.before.before.before.before.before.before.before.before.before.before.before.before.before.registers.ensures.0 k.start.ensures.0 c.before.before.before.before.before.before.before.before.before.before.before.before.line.ensures c.before.before.before.before.before.before.before.before.before.put2.ensures w.1,
+    let t = c.args.form.now in
+    let w = c.write_moves.ensures in
+    let at_first = stands c.before.before.before.before.before.before.before.before.before.before.before.before.before.before in
+    let given = c.contents_at-contents.ensures in (
+      run-done t c.requires.0.readable c.args.path.now c.args.steps c.requires.1 _ at_first _ given _ _ _ c.put.ensures w.0,
+      lines-done t c.requires.0.readable c.args.path.now c.args.steps c.requires.1 _ at_first _ given _ _ _ _ _ _ c.registers-r.ensures.0 c.start-place.ensures.0 c.line-shown.ensures c.put-2.ensures w.1,
     )
 
 pub write_run_spec : {M : Type 1} → statement M
@@ -44,14 +42,14 @@ write_run_spec =
     tie.close
     (tie.spec
     (λ c. search rules)
-    (λ c. omega (arith, c.shared-slice-known4.given 0))
-    (λ c κs. let e = c.before.before.before.before.before.before in (e.requires.0, e.requires.1.low 0 (omega arith)))
+    (λ c. omega (arith, c.shared_slice_known-4-1.given 0))
+    (λ c κs. (c.requires.0, c.requires.1.low 0 (omega arith)))
     (λ c. search rules)
     (λ c κs. search rules)
-    (λ c κs. c.before.before.before.before.before.before.before.before.before.before.before.before.requires.0.readable)
-    (λ c. omega (arith, c.start.ensures.2))
+    (λ c κs. c.requires.0.readable)
+    (λ c. omega (arith, c.start-place.ensures.2))
     registers-requires
-    (λ c κs. (c.registers.ensures.1, omega arith))
+    (λ c κs. (c.registers-r.ensures.1, omega arith))
     (λ c. search rules)
     (λ c κs. search rules)
     write-moves-requires
