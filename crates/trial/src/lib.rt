@@ -1,5 +1,11 @@
 // What the test programs share: parts of buffers, hexadecimal fields, digests, what a call left alone, files of cases, and counts in columns. No function asks anything of its caller.
-use libc::STDOUT_FILENO;
+#![tactic(auto)]
+
+ghost use Rattle.std.specs.Prelude.{◌≤◌, length};
+
+use std::io::Read;
+use std::rt::Files;
+use std::{fs, io, str};
 
 // What fills a buffer before a call: what is not to be written must still be it afterwards.
 pub const FILL: u32 = 2863311530;
@@ -229,17 +235,38 @@ fn numbers(s: &[u8], list: &mut [u32]) {
     }
 }
 
+// The file of this name, open for reading; none where it cannot be opened.
+pub fn open<R: Files>(rt: &R, name: &[u8]) -> Option<R::File> {
+    let path = str::from_utf8(name).ok()?;
+    fs::open(rt, path).ok()
+}
+
+// Reads until the bytes are full, the file ends or a read fails; says how many came.
+pub fn read_full<F: Read>(file: &mut F, bytes: &mut [u8]) -> usize
+    ensures { result ≤ length bytes.new }
+{
+    let mut done = 0;
+    while done < bytes.len() {
+        match file.read(&mut bytes[done..]) {
+            Ok(0) => return done,
+            Ok(more) => done += more,
+            Err(_) => return done,
+        }
+    }
+    done
+}
+
 // Reads so many bytes to the front of a buffer that has room for them; says how many came.
-pub fn take(file: i32, buffer: &mut [u8], n: u64) -> usize {
+pub fn take<F: Read>(file: &mut F, buffer: &mut [u8], n: u64) -> usize {
     let m = n as usize;
     if buffer.len() < m {
         return 0;
     }
-    io::read_full(file, &mut buffer[0..m])
+    read_full(file, &mut buffer[0..m])
 }
 
 // Reads n numbers of eight hexadecimal digits each to the front of a list, 2,048 at most; says how many.
-pub fn take_numbers(file: i32, n: u64, list: &mut [u32]) -> usize {
+pub fn take_numbers<F: Read>(file: &mut F, n: u64, list: &mut [u32]) -> usize {
     let mut digits = [0u8; 16384];
     let count = n % 2049;
     let d = take(file, &mut digits, 8 * count);
@@ -255,19 +282,19 @@ pub fn add(counts: &mut [u32], at: usize, n: u32) {
 }
 
 // Prints a count in eight columns.
-fn show_count(n: u32) {
+fn show_count(rt: &impl Print, n: u32) -> io::Result<()> {
     let mut column = [b' '; 8];
     columns::put(&mut column, 2, n);
-    io::write_all(STDOUT_FILENO, &column);
+    rt.write_all(&column)
 }
 
 // Prints a line: a name, then each count in eight columns.
-pub fn show(name: &[u8], counts: &[u32]) {
-    io::write_all(STDOUT_FILENO, name);
+pub fn show(rt: &impl Print, name: &[u8], counts: &[u32]) -> io::Result<()> {
+    rt.write_all(name)?;
     let mut i = 0;
     while i < counts.len() {
-        show_count(counts[i]);
+        show_count(rt, counts[i])?;
         i += 1;
     }
-    io::write_all(STDOUT_FILENO, b"\n");
+    rt.write_all(b"\n")
 }
