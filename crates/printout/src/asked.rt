@@ -10,12 +10,12 @@ ghost use Rattle.claims.specs.AnswerNumbers.{ask_numbers};
 ghost use Rattle.printout.specs.PrintedLines.{class_of, ask_printed};
 ghost use Rattle.printout.specs.Text.{AskText};
 
-use crate::files::{Printed, read_file};
+use crate::files::{Output, Printed, read_file};
 use crate::text::put_line;
 use checker::Asking;
 use claims::Notation;
 use columns::Sheet;
-use libc::STDOUT_FILENO;
+use std::rt::Files;
 
 #[derive(Clone, Copy)]
 pub struct Numbers {
@@ -107,16 +107,25 @@ pub fn put_asking(notation: Notation, table: &[u8], question: &[u8], text: &mut 
     put_asking_over(notation, table, question, &mut rows, text)
 }
 
-// Hands the printout for these bytes of a table and a question to C's write.
-fn hand_over(notation: Notation, table: &[u8], question: &[u8], text: &[u8]) -> bool
-    requires { text.now ≡ file_bytes Answer (ask_printed (question_files notation table.now question.now)) }
-{
-    io::write_all(STDOUT_FILENO, text)
+impl<R: Print> Output<'_, R> {
+    // Hands over the printout for these bytes of a table and a question; false where not all could be written.
+    fn hand_over_answer(
+        &self,
+        notation: Notation,
+        table: &[u8],
+        question: &[u8],
+        text: &[u8],
+    ) -> bool
+        requires { text.now ≡ file_bytes Answer (ask_printed (question_files notation table.now question.now)) }
+    {
+        self.rt.write_all(text).is_ok()
+    }
 }
 
 // Prints the answer for the files of these names: reads both into lent bytes, and hands the printout for what was read over, all at once. Of the
 // question 609 bytes are more than either notation allows.
-pub fn print_asking_over(
+pub fn print_asking_over<R: Files + Print>(
+    rt: &R,
     notation: Notation,
     table_name: &[u8],
     question_name: &[u8],
@@ -127,10 +136,10 @@ pub fn print_asking_over(
     requires { (40001 ≤ length table.old) × (609 ≤ length question.old) × (73 ≤ length text.old) }
     ensures { AskText notation (take result.table table.new) (take result.other question.new) result.text text.old text.new }
 {
-    let t = read_file(table_name, table);
-    let q = read_file(question_name, question);
+    let t = read_file(rt, table_name, table);
+    let q = read_file(rt, question_name, question);
     let n = put_asking(notation, &table[..t], &question[..q], text);
-    let all = hand_over(notation, &table[..t], &question[..q], &text[..n]);
+    let all = Output { rt }.hand_over_answer(notation, &table[..t], &question[..q], &text[..n]);
     Printed {
         table: t,
         other: q,
@@ -140,11 +149,17 @@ pub fn print_asking_over(
 }
 
 // The same, over memory of its own; false where not all could be written.
-fn print_in(notation: Notation, table_name: &[u8], question_name: &[u8]) -> bool {
+fn print_in<R: Files + Print>(
+    rt: &R,
+    notation: Notation,
+    table_name: &[u8],
+    question_name: &[u8],
+) -> bool {
     let mut table = [0u8; 40001];
     let mut question = [0u8; 609];
     let mut text = [b' '; 73];
     let printed = print_asking_over(
+        rt,
         notation,
         table_name,
         question_name,
@@ -156,11 +171,11 @@ fn print_in(notation: Notation, table_name: &[u8], question_name: &[u8]) -> bool
 }
 
 // Prints the answer to a question that is a file of rows.
-pub fn print_asking(table_name: &[u8], question_name: &[u8]) -> bool {
-    print_in(Notation::Rows, table_name, question_name)
+pub fn print_asking<R: Files + Print>(rt: &R, table_name: &[u8], question_name: &[u8]) -> bool {
+    print_in(rt, Notation::Rows, table_name, question_name)
 }
 
 // Prints the answer to a question that is a line of text.
-pub fn print_asking_text(table_name: &[u8], text_name: &[u8]) -> bool {
-    print_in(Notation::Text, table_name, text_name)
+pub fn print_asking_text<R: Files + Print>(rt: &R, table_name: &[u8], text_name: &[u8]) -> bool {
+    print_in(rt, Notation::Text, table_name, text_name)
 }

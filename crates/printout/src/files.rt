@@ -1,7 +1,11 @@
-// Reading a file by name: one that cannot be read counts as empty.
+// Reading a file by name: one that cannot be read counts as empty. And the output, to which printouts are handed.
 ghost use Rattle.io.specs.Counts.{IsPrefixLen};
 
-// What a program did: how many bytes of the table and of the other file it read, how many of its text it handed to C's write, and whether all of
+use std::io::Read;
+use std::rt::Files;
+use std::{fs, str};
+
+// What a program did: how many bytes of the table and of the other file it read, how many of its text it handed to the output, and whether all of
 // them could be written.
 #[derive(Clone, Copy)]
 pub struct Printed {
@@ -11,34 +15,39 @@ pub struct Printed {
     pub all: bool,
 }
 
+// Where printouts go: its methods, which stand beside the printouts, say what is handed over.
+#[derive(Drop)]
+pub(crate) struct Output<'a, R> {
+    pub(crate) rt: &'a R,
+}
+
 // Reads until the bytes are full or the file ends; 0 where a read fails.
-fn read_whole(file: i32, bytes: &mut [u8]) -> usize
+fn read_whole<F: Read>(file: &mut F, bytes: &mut [u8]) -> usize
     ensures { IsPrefixLen result bytes.new }
 {
     let mut done = 0;
     while done < bytes.len() {
-        let got = libc::read(file, &mut bytes[done..]);
-        if got < 0 {
-            return 0;
+        match file.read(&mut bytes[done..]) {
+            Ok(0) => return done,
+            Ok(more) => done += more,
+            Err(_) => return 0,
         }
-        let more = io::count(got, &bytes[done..]);
-        if more == 0 {
-            return done;
-        }
-        done += more;
     }
     done
 }
 
+// The file of this name, open for reading; none where it cannot be opened.
+fn open<R: Files>(rt: &R, name: &[u8]) -> Option<R::File> {
+    let path = str::from_utf8(name).ok()?;
+    fs::open(rt, path).ok()
+}
+
 // How many bytes of the file stand in front of the lent ones.
-pub fn read_file(name: &[u8], bytes: &mut [u8]) -> usize
+pub fn read_file(rt: &impl Files, name: &[u8], bytes: &mut [u8]) -> usize
     ensures { IsPrefixLen result bytes.new }
 {
-    let file = os::open_read(name);
-    if file < 0 {
-        return 0;
+    match open(rt, name) {
+        Some(mut file) => read_whole(&mut file, bytes),
+        None => 0,
     }
-    let n = read_whole(file, bytes);
-    libc::close(file);
-    n
 }

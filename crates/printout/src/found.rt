@@ -7,11 +7,11 @@ ghost use Rattle.printout.specs.Document.{reach_bytes};
 ghost use Rattle.printout.specs.PrintedLines.{moments as moments_in, moment_count, reach_printed};
 ghost use Rattle.printout.specs.Text.{Put, ReachText};
 
-use crate::files::{Printed, read_file};
+use crate::files::{Output, Printed, read_file};
 use crate::text::{put_line, put_moments};
 use checker::Reaching;
 use columns::Sheet;
-use libc::STDOUT_FILENO;
+use std::rt::Files;
 
 #[derive(Clone, Copy)]
 pub struct Numbers {
@@ -81,15 +81,18 @@ pub fn reach_text(table: &[u8], target: &[u8], text: &mut [u8]) -> usize
     put_answer(text, reply, &slots)
 }
 
-// Hands the printout for these bytes of a table and a target to C's write.
-fn hand_over(table: &[u8], target: &[u8], text: &[u8]) -> bool
-    requires { text.now ≡ reach_bytes (reach_printed (target_files table.now target.now)) }
-{
-    io::write_all(STDOUT_FILENO, text)
+impl<R: Print> Output<'_, R> {
+    // Hands over the printout for these bytes of a table and a target; false where not all could be written.
+    fn hand_over(&self, table: &[u8], target: &[u8], text: &[u8]) -> bool
+        requires { text.now ≡ reach_bytes (reach_printed (target_files table.now target.now)) }
+    {
+        self.rt.write_all(text).is_ok()
+    }
 }
 
 // Prints the answer for the files of these names: reads both into lent bytes, and hands the printout for what was read over, all at once.
-pub fn print_reaching_over(
+pub fn print_reaching_over<R: Files + Print>(
+    rt: &R,
     table_name: &[u8],
     target_name: &[u8],
     table: &mut [u8],
@@ -99,10 +102,10 @@ pub fn print_reaching_over(
     requires { (40001 ≤ length table.old) × (310 ≤ length target.old) × (1240300 ≤ length text.old) }
     ensures { ReachText (take result.table table.new) (take result.other target.new) result.text text.old text.new }
 {
-    let t = read_file(table_name, table);
-    let g = read_file(target_name, target);
+    let t = read_file(rt, table_name, table);
+    let g = read_file(rt, target_name, target);
     let n = reach_text(&table[..t], &target[..g], text);
-    let all = hand_over(&table[..t], &target[..g], &text[..n]);
+    let all = Output { rt }.hand_over(&table[..t], &target[..g], &text[..n]);
     Printed {
         table: t,
         other: g,
@@ -112,10 +115,17 @@ pub fn print_reaching_over(
 }
 
 // The same, over memory of its own; false where not all could be written.
-pub fn print_reaching(table_name: &[u8], target_name: &[u8]) -> bool {
+pub fn print_reaching<R: Files + Print>(rt: &R, table_name: &[u8], target_name: &[u8]) -> bool {
     let mut table = [0u8; 40001];
     let mut target = [0u8; 310];
     let mut text = [b' '; 1240300];
-    let printed = print_reaching_over(table_name, target_name, &mut table, &mut target, &mut text);
+    let printed = print_reaching_over(
+        rt,
+        table_name,
+        target_name,
+        &mut table,
+        &mut target,
+        &mut text,
+    );
     printed.all
 }

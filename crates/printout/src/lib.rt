@@ -1,4 +1,6 @@
 // The printouts of document 01: what the checker returns for two files, set in columns.
+#![tactic(auto)]
+
 pub mod asked;
 pub mod files;
 pub mod found;

@@ -6,8 +6,8 @@ ghost use Rattle.columns.specs.Columns.{file_bytes};
 ghost use Rattle.printout.specs.PrintedLines.{shown, moments as moments_in};
 ghost use Rattle.printout.specs.Text.{Put};
 
+use crate::files::Output;
 use columns::Sheet;
-use libc::STDOUT_FILENO;
 
 // Writes a line on this sheet from byte `at` on; returns where it ends.
 pub fn put_line(text: &mut [u8], at: usize, sheet: Sheet, numbers: &[u32]) -> usize
@@ -52,24 +52,26 @@ pub fn put_moments(text: &mut [u8], at: usize, slots: &[u32], moments: usize) ->
     end
 }
 
-// Hands a line with one number to C's write.
-fn hand_over(number: u32, text: &[u8]) -> bool
-    requires { text.now ≡ file_bytes Plain ((number ∷ []) ∷ []) }
-{
-    io::write_all(STDOUT_FILENO, text)
+impl<R: Print> Output<'_, R> {
+    // Hands over a line with one number; false where not all of it could be written.
+    fn hand_over_line(&self, number: u32, text: &[u8]) -> bool
+        requires { text.now ≡ file_bytes Plain ((number ∷ []) ∷ []) }
+    {
+        self.rt.write_all(text).is_ok()
+    }
 }
 
 // Prints a line of its own, as a case's number, from a lent text; false where not all of it could be written.
-pub fn print_line_over(number: u32, text: &mut [u8]) -> bool
+pub fn print_line_over(rt: &impl Print, number: u32, text: &mut [u8]) -> bool
     requires { 7 ≤ length text.old }
     ensures { Put (file_bytes Plain ((number ∷ []) ∷ [])) 0 7 text.old text.new }
 {
     let end = put_line(text, 0, Sheet::Plain, &[number]);
-    hand_over(number, &text[..end])
+    Output { rt }.hand_over_line(number, &text[..end])
 }
 
 // The same, over a text of its own.
-pub fn print_line(number: u32) -> bool {
+pub fn print_line(rt: &impl Print, number: u32) -> bool {
     let mut text = [b' '; 7];
-    print_line_over(number, &mut text)
+    print_line_over(rt, number, &mut text)
 }

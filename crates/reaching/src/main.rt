@@ -1,4 +1,6 @@
 // Prints whether the table of this folder reaches its target: table.txt, target.txt.
-fn main() {
-    printout::print_reaching(b"table.txt", b"target.txt");
+#![tactic(auto)]
+
+fn main(rt: HostRuntime) {
+    printout::print_reaching(&rt, b"table.txt", b"target.txt");
 }
