@@ -1,7 +1,12 @@
 // Tries the seven calls on contents, classes and matrices: compares what they give with the independent engine's results, and prints for each call how many cases were answered, how many were refused by which number, and how many differ.
 // Then every class of every number of registers and constants, with several constants: six calls for each.
 // All of a reply is compared, and all of a buffer of which the first part is lent.
+#![tactic(auto)]
+
 use checker::{Number, Refusal, Written};
+use std::io;
+use std::io::Read;
+use std::rt::Files;
 use trial::{FILL, FILL8, START};
 
 // A case's header: ten fields (the engine's src/trials/classes.rs says what they are).
@@ -162,17 +167,30 @@ fn column(reply: u32) -> usize {
 }
 
 // Counts a case, and names one that differs.
-fn count(counts: &mut [u32], header: &[u8], case: u32, seen: Outcome) {
+fn count(
+    rt: &impl Print,
+    counts: &mut [u32],
+    header: &[u8],
+    case: u32,
+    seen: Outcome,
+) -> io::Result<()> {
     trial::add(counts, 0, 1);
     trial::add(counts, column(seen.reply), 1);
     if !trial::tells(header, 8, &[seen.reply as u64, seen.digest]) {
         trial::add(counts, 7, 1);
-        trial::show(b"differs           ", &[case, seen.reply]);
+        trial::show(rt, b"differs           ", &[case, seen.reply])?;
     }
+    Ok(())
 }
 
 // The case behind a header.
-fn try_case(file: i32, header: &[u8; 170], counts: &mut [u32], case: u32) {
+fn try_case<F: Read>(
+    rt: &impl Print,
+    file: &mut F,
+    header: &[u8; 170],
+    counts: &mut [u32],
+    case: u32,
+) -> io::Result<()> {
     let mut constants = [0u32; 8];
     let mut contents = [0u32; 8];
     let mut matrix = [0u8; 64];
@@ -185,44 +203,48 @@ fn try_case(file: i32, header: &[u8; 170], counts: &mut [u32], case: u32) {
         trial::front(&contents, n),
         trial::front8(&matrix, m),
     );
-    count(counts, header, case, seen);
+    count(rt, counts, header, case, seen)
 }
 
 // The next case, if there is one.
-fn next_case(file: i32, counts: &mut [u32], case: u32) -> bool {
+fn next_case<F: Read>(
+    rt: &impl Print,
+    file: &mut F,
+    counts: &mut [u32],
+    case: u32,
+) -> io::Result<bool> {
     let mut header = [b'0'; 170];
-    if io::read_full(file, &mut header) < HEADER {
-        return false;
+    if trial::read_full(file, &mut header) < HEADER {
+        return Ok(false);
     }
-    try_case(file, &header, counts, case);
-    true
+    try_case(rt, file, &header, counts, case)?;
+    Ok(true)
 }
 
 // All cases of an open file, a thousand at most.
-fn try_cases(file: i32, counts: &mut [u32]) {
+fn try_cases<F: Read>(rt: &impl Print, file: &mut F, counts: &mut [u32]) -> io::Result<()> {
     let mut case = 1;
     while case <= 1000 {
-        if next_case(file, counts, case) {
+        if next_case(rt, file, counts, case)? {
             case += 1;
         } else {
-            return;
+            return Ok(());
         }
     }
+    Ok(())
 }
 
-fn show_counts(name: &[u8], counts: &[u32; 8]) {
-    trial::show(name, counts);
+fn show_counts(rt: &impl Print, name: &[u8], counts: &[u32; 8]) -> io::Result<()> {
+    trial::show(rt, name, counts)
 }
 
 // A call: its file has its name.
-fn group(path: &[u8], name: &[u8]) {
+fn group<R: Files + Print>(rt: &R, path: &[u8], name: &[u8]) -> io::Result<()> {
     let mut counts = [0u32; 8];
-    let file = os::open_read(path);
-    if 0 <= file {
-        try_cases(file, &mut counts);
-        libc::close(file);
+    if let Some(mut file) = trial::open(rt, path) {
+        try_cases(rt, &mut file, &mut counts)?;
     }
-    show_counts(name, &counts);
+    show_counts(rt, name, &counts)
 }
 
 // The entries of a matrix.
@@ -306,7 +328,7 @@ fn classes_of(registers: u32, constants: u32) -> u32 {
 }
 
 // The sweep behind a header: counts it, its classes, and whether it differs.
-fn try_sweep(file: i32, header: &[u8; 68], counts: &mut [u32]) {
+fn try_sweep<F: Read>(file: &mut F, header: &[u8; 68], counts: &mut [u32]) {
     let mut constants = [0u32; 8];
     let registers = trial::number(header, 0);
     let count = trial::number(header, 1);
@@ -329,9 +351,9 @@ fn count_sweep(counts: &mut [u32], same: bool, classes: u32) {
 }
 
 // The next sweep, if there is one.
-fn next_sweep(file: i32, counts: &mut [u32]) -> bool {
+fn next_sweep<F: Read>(file: &mut F, counts: &mut [u32]) -> bool {
     let mut header = [b'0'; 68];
-    if io::read_full(file, &mut header) < SWEEP {
+    if trial::read_full(file, &mut header) < SWEEP {
         return false;
     }
     try_sweep(file, &header, counts);
@@ -339,7 +361,7 @@ fn next_sweep(file: i32, counts: &mut [u32]) -> bool {
 }
 
 // All sweeps of an open file, a hundred at most.
-fn try_sweeps(file: i32, counts: &mut [u32]) {
+fn try_sweeps<F: Read>(file: &mut F, counts: &mut [u32]) {
     let mut i = 0u32;
     while i < 100 {
         if next_sweep(file, counts) {
@@ -350,35 +372,29 @@ fn try_sweeps(file: i32, counts: &mut [u32]) {
     }
 }
 
-fn show_sweeps(counts: &[u32; 3]) {
-    io::write_all(
-        libc::STDOUT_FILENO,
-        b"every class         sweeps classes  differ\n",
-    );
-    trial::show(b"                  ", counts);
+fn show_sweeps(rt: &impl Print, counts: &[u32; 3]) -> io::Result<()> {
+    rt.write_all(b"every class         sweeps classes  differ\n")?;
+    trial::show(rt, b"                  ", counts)
 }
 
-fn sweeps() {
+fn sweeps<R: Files + Print>(rt: &R) -> io::Result<()> {
     let mut counts = [0u32; 3];
-    let file = os::open_read(b"sweeps");
-    if 0 <= file {
-        try_sweeps(file, &mut counts);
-        libc::close(file);
+    if let Some(mut file) = trial::open(rt, b"sweeps") {
+        try_sweeps(&mut file, &mut counts);
     }
-    show_sweeps(&counts);
+    show_sweeps(rt, &counts)
 }
 
-fn main() {
-    io::write_all(
-        libc::STDOUT_FILENO,
+fn main(rt: HostRuntime) -> io::Result<()> {
+    rt.write_all(
         b"call                 cases  answer       9       3       4       5      10  differ\n",
-    );
-    group(b"class_count", b"class_count       ");
-    group(b"class_of", b"class_of          ");
-    group(b"contents_of", b"contents_of       ");
-    group(b"matrix_of", b"matrix_of         ");
-    group(b"matrix_of_class", b"matrix_of_class   ");
-    group(b"class_of_matrix", b"class_of_matrix   ");
-    group(b"contents_of_matrix", b"contents_of_matrix");
-    sweeps();
+    )?;
+    group(&rt, b"class_count", b"class_count       ")?;
+    group(&rt, b"class_of", b"class_of          ")?;
+    group(&rt, b"contents_of", b"contents_of       ")?;
+    group(&rt, b"matrix_of", b"matrix_of         ")?;
+    group(&rt, b"matrix_of_class", b"matrix_of_class   ")?;
+    group(&rt, b"class_of_matrix", b"class_of_matrix   ")?;
+    group(&rt, b"contents_of_matrix", b"contents_of_matrix")?;
+    sweeps(&rt)
 }

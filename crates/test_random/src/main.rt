@@ -1,7 +1,12 @@
 // Tries the examples of document 01 that carry no star, some of document 02, and random cases with the independent engine's results: for each group prints how many cases had which reply, and how many differ from the engine's.
 // Of each case: reaching, asking by rows and by text, and replaying, with buffers of the length asked or a little longer; the three C functions; reaching and asking with a buffer that is one number too short.
 // All of each reply is compared, and all of each lent buffer; the number of registers that a no gives with the table's.
+#![tactic(auto)]
+
 use checker::Refusal;
+use std::io;
+use std::io::Read;
+use std::rt::Files;
 use trial::{FILL, FILL16, START};
 
 // A case's header: 25 fields (the engine's src/trials/random.rs says what they are). Reaching has fields 5 to 12, asking by rows 13 to 16 and by text 17 to 20, replaying 21 to 24.
@@ -351,6 +356,7 @@ fn flag(yes: bool) -> u32 {
 
 // Names a case that differs, with 1 for each of reaching, asking by rows and by text, replaying, the C functions and short buffers that does.
 fn name_case(
+    rt: &impl Print,
     case: u32,
     reach: bool,
     ask: bool,
@@ -358,8 +364,9 @@ fn name_case(
     replay: bool,
     codes: bool,
     short: bool,
-) {
+) -> io::Result<()> {
     trial::show(
+        rt,
         b"differs ",
         &[
             case,
@@ -370,7 +377,7 @@ fn name_case(
             flag(!codes),
             flag(!short),
         ],
-    );
+    )
 }
 
 // Counts the replies of a case.
@@ -384,6 +391,7 @@ fn count_replies(counts: &mut [u32], reach: usize, ask: usize, by_text: usize, r
 
 // Counts a case.
 fn count(
+    rt: &impl Print,
     counts: &mut [u32],
     case: u32,
     reach: Outcome,
@@ -392,13 +400,14 @@ fn count(
     replay: Outcome,
     codes: bool,
     short: bool,
-) {
+) -> io::Result<()> {
     count_replies(counts, reach.reply, ask.reply, by_text.reply, replay.reply);
     if reach.same & ask.same & by_text.same & replay.same & codes & short {
-        return;
+        return Ok(());
     }
     trial::add(counts, 13, 1);
     name_case(
+        rt,
         case,
         reach.same,
         ask.same,
@@ -406,11 +415,12 @@ fn count(
         replay.same,
         codes,
         short,
-    );
+    )
 }
 
 // One case: each call is tried.
 fn try_calls(
+    rt: &impl Print,
     table: &[u8],
     target: &[u8],
     question: &[u8],
@@ -419,7 +429,7 @@ fn try_calls(
     header: &[u8],
     counts: &mut [u32],
     case: u32,
-) {
+) -> io::Result<()> {
     let reach = try_reach(table, target, header, case);
     let ask = try_ask(table, question, header, BY_ROWS, case);
     let by_text = try_ask(table, text, header, BY_TEXT, case);
@@ -428,11 +438,17 @@ fn try_calls(
     let short = short_reach(table, target, case)
         & short_ask(table, question, BY_ROWS)
         & short_ask(table, text, BY_TEXT);
-    count(counts, case, reach, ask, by_text, replay, codes, short);
+    count(rt, counts, case, reach, ask, by_text, replay, codes, short)
 }
 
 // One case after its header: its files and its list are read one after the other.
-fn try_case(file: i32, header: &[u8; 425], counts: &mut [u32], case: u32) {
+fn try_case<F: Read>(
+    rt: &impl Print,
+    file: &mut F,
+    header: &[u8; 425],
+    counts: &mut [u32],
+    case: u32,
+) -> io::Result<()> {
     let mut table = [0u8; 41000];
     let mut target = [0u8; 1100];
     let mut question = [0u8; 1100];
@@ -444,6 +460,7 @@ fn try_case(file: i32, header: &[u8; 425], counts: &mut [u32], case: u32) {
     let x = trial::take(file, &mut text, trial::field(header, 3));
     let n = trial::take_numbers(file, trial::field(header, 4), &mut list);
     try_calls(
+        rt,
         trial::front8(&table, t),
         trial::front8(&target, g),
         trial::front8(&question, q),
@@ -452,56 +469,59 @@ fn try_case(file: i32, header: &[u8; 425], counts: &mut [u32], case: u32) {
         header,
         counts,
         case,
-    );
+    )
 }
 
 // The next case, if there is one.
-fn next_case(file: i32, counts: &mut [u32], case: u32) -> bool {
+fn next_case<F: Read>(
+    rt: &impl Print,
+    file: &mut F,
+    counts: &mut [u32],
+    case: u32,
+) -> io::Result<bool> {
     let mut header = [b'0'; 425];
-    if io::read_full(file, &mut header) < HEADER {
-        return false;
+    if trial::read_full(file, &mut header) < HEADER {
+        return Ok(false);
     }
-    try_case(file, &header, counts, case);
-    true
+    try_case(rt, file, &header, counts, case)?;
+    Ok(true)
 }
 
 // All cases of an open file, a thousand at most.
-fn try_cases(file: i32, counts: &mut [u32]) {
+fn try_cases<F: Read>(rt: &impl Print, file: &mut F, counts: &mut [u32]) -> io::Result<()> {
     let mut case = 1;
     while case <= 1000 {
-        if next_case(file, counts, case) {
+        if next_case(rt, file, counts, case)? {
             case += 1;
         } else {
-            return;
+            return Ok(());
         }
     }
+    Ok(())
 }
 
-fn show(name: &[u8], counts: &[u32; 14]) {
-    trial::show(name, counts);
+fn show(rt: &impl Print, name: &[u8], counts: &[u32; 14]) -> io::Result<()> {
+    trial::show(rt, name, counts)
 }
 
 // A group: its file has its name.
-fn group(path: &[u8], name: &[u8]) {
+fn group<R: Files + Print>(rt: &R, path: &[u8], name: &[u8]) -> io::Result<()> {
     let mut counts = [0u32; 14];
-    let file = os::open_read(path);
-    if 0 <= file {
-        try_cases(file, &mut counts);
-        libc::close(file);
+    if let Some(mut file) = trial::open(rt, path) {
+        try_cases(rt, &mut file, &mut counts)?;
     }
-    show(name, &counts);
+    show(rt, name, &counts)
 }
 
-fn main() {
-    io::write_all(
-        libc::STDOUT_FILENO,
+fn main(rt: HostRuntime) -> io::Result<()> {
+    rt.write_all(
         b"group      cases reached   never refused     yes      no refused     yes      no refused    good     bad refused  differ\n",
-    );
-    group(b"examples", b"examples");
-    group(b"tiny", b"tiny    ");
-    group(b"small", b"small   ");
-    group(b"large", b"large   ");
-    group(b"long", b"long    ");
-    group(b"full", b"full    ");
-    group(b"damaged", b"damaged ");
+    )?;
+    group(&rt, b"examples", b"examples")?;
+    group(&rt, b"tiny", b"tiny    ")?;
+    group(&rt, b"small", b"small   ")?;
+    group(&rt, b"large", b"large   ")?;
+    group(&rt, b"long", b"long    ")?;
+    group(&rt, b"full", b"full    ")?;
+    group(&rt, b"damaged", b"damaged ")
 }

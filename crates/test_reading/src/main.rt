@@ -1,8 +1,11 @@
 // Tries the boundary cases of reading: for each case of the data folder prints the case, the refusal's number, file and line, or zeros, and which files were there: 0 none, 1 the table, 3 the table and a target, 5 the table and a question, 9 the table and a question as text.
+#![tactic(auto)]
+
 ghost use Rattle.forms.specs.Readable.{Readable};
 
-use libc::STDOUT_FILENO;
 use refusals::Refusal;
+use std::io;
+use std::rt::Files;
 
 // The files 001.table, 001.target, 001.question, 001.text, .. of the data folder (engine/boundaries.py says what each case is): a case has a table, and perhaps one of the others. In cases 128 to 130 and 290 a folder stands in the place of a file; case 131 has none.
 const CASES: u32 = 334;
@@ -49,31 +52,27 @@ fn of_question(reply: questions::Reply, files: u32) -> Tried {
 }
 
 // The target of a case, if it has one.
-fn try_target(form: &[u32], a: u8, b: u8, c: u8) -> Tried {
-    let file = os::open_read(&[a, b, c, b'.', b't', b'a', b'r', b'g', b'e', b't']);
-    if file < 0 {
+fn try_target(rt: &impl Files, form: &[u32], a: u8, b: u8, c: u8) -> Tried {
+    let name = [a, b, c, b'.', b't', b'a', b'r', b'g', b'e', b't'];
+    let mut bytes = [0u8; 4096];
+    let Some(n) = trial::read_file(rt, &name, &mut bytes) else {
         return read(1);
-    }
-    let mut bytes = io::buffer();
-    let n = io::read_full(file, &mut bytes);
-    libc::close(file);
+    };
     let mut target = [0u32; forms::LENGTH];
     of_reply(reader::read_target(form, &bytes[..n], &mut target), 3)
 }
 
 // The question of a case, if it has one.
-fn try_question(form: &[u32], a: u8, b: u8, c: u8) -> Tried
+fn try_question(rt: &impl Files, form: &[u32], a: u8, b: u8, c: u8) -> Tried
     requires { Readable form.now }
 {
-    let file = os::open_read(&[
+    let name = [
         a, b, c, b'.', b'q', b'u', b'e', b's', b't', b'i', b'o', b'n',
-    ]);
-    if file < 0 {
+    ];
+    let mut bytes = [0u8; 4096];
+    let Some(n) = trial::read_file(rt, &name, &mut bytes) else {
         return read(1);
-    }
-    let mut bytes = io::buffer();
-    let n = io::read_full(file, &mut bytes);
-    libc::close(file);
+    };
     let mut rows = [0u32; 96];
     let registers = forms::registers(form) as u32;
     let constants = forms::constants(form) as u32;
@@ -85,16 +84,14 @@ fn try_question(form: &[u32], a: u8, b: u8, c: u8) -> Tried
 }
 
 // The question as text of a case, if it has one.
-fn try_text(form: &[u32], a: u8, b: u8, c: u8) -> Tried
+fn try_text(rt: &impl Files, form: &[u32], a: u8, b: u8, c: u8) -> Tried
     requires { Readable form.now }
 {
-    let file = os::open_read(&[a, b, c, b'.', b't', b'e', b'x', b't']);
-    if file < 0 {
+    let name = [a, b, c, b'.', b't', b'e', b'x', b't'];
+    let mut bytes = [0u8; 4096];
+    let Some(n) = trial::read_file(rt, &name, &mut bytes) else {
         return read(1);
-    }
-    let mut bytes = io::buffer();
-    let n = io::read_full(file, &mut bytes);
-    libc::close(file);
+    };
     let mut rows = [0u32; 96];
     let registers = forms::registers(form) as u32;
     let constants = forms::constants(form) as u32;
@@ -106,27 +103,25 @@ fn try_text(form: &[u32], a: u8, b: u8, c: u8) -> Tried
 }
 
 // The table of a case, and then its target, question or text.
-fn try_case(a: u8, b: u8, c: u8) -> Tried {
-    let file = os::open_read(&[a, b, c, b'.', b't', b'a', b'b', b'l', b'e']);
-    if file < 0 {
+fn try_case(rt: &impl Files, a: u8, b: u8, c: u8) -> Tried {
+    let name = [a, b, c, b'.', b't', b'a', b'b', b'l', b'e'];
+    let mut bytes = [0u8; 65536];
+    let Some(n) = trial::read_file(rt, &name, &mut bytes) else {
         return read(0);
-    }
-    let mut bytes = io::large_buffer();
-    let n = io::read_full(file, &mut bytes);
-    libc::close(file);
+    };
     let mut form = [0u32; forms::LENGTH];
     let mut labels = [0u8; 3370];
     let reply = opening::open_table(&bytes[..n], &mut form, &mut labels);
     if let reader::Reply::Accepted = reply {
-        let target = try_target(&form, a, b, c);
+        let target = try_target(rt, &form, a, b, c);
         if target.files == 3 {
             return target;
         }
-        let question = try_question(&form, a, b, c);
+        let question = try_question(rt, &form, a, b, c);
         if question.files == 5 {
             return question;
         }
-        return try_text(&form, a, b, c);
+        return try_text(rt, &form, a, b, c);
     }
     of_reply(reply, 1)
 }
@@ -136,7 +131,7 @@ fn digit(n: u32) -> u8 {
 }
 
 // Prints one case in columns.
-fn show(i: u32, r: Tried) {
+fn show(rt: &impl Print, i: u32, r: Tried) -> io::Result<()> {
     let mut line = [b' '; 31];
     columns::put(&mut line, 0, i);
     columns::put(&mut line, 6, r.number);
@@ -144,13 +139,18 @@ fn show(i: u32, r: Tried) {
     columns::put(&mut line, 18, r.line);
     columns::put(&mut line, 24, r.files);
     line[30] = 10;
-    io::write_all(STDOUT_FILENO, &line);
+    rt.write_all(&line)
 }
 
-fn main() {
+fn main(rt: HostRuntime) -> io::Result<()> {
     let mut i = 1;
     while i <= CASES {
-        show(i, try_case(digit(i / 100), digit(i / 10), digit(i)));
+        show(
+            &rt,
+            i,
+            try_case(&rt, digit(i / 100), digit(i / 10), digit(i)),
+        )?;
         i += 1;
     }
+    Ok(())
 }

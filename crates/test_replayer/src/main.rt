@@ -1,9 +1,13 @@
 // Tries the replayer: prints for each case its number, the reply of `checker::replay` to the list as it stands, and that of `checker::replay_steps` to its start and its steps.
+#![tactic(auto)]
+
 ghost use Rattle.std.specs.Prelude.{◌≡◌, ◌≤◌, take};
 ghost use Rattle.claims.specs.Replaying.{replay_steps_reply};
 
 use checker::Replayed;
 use replay::Step;
+use std::io;
+use std::io::Read;
 
 // A case's header: three fields (the engine's src/trials/replayer.rs says what they are).
 const HEADER: usize = 51;
@@ -48,8 +52,9 @@ fn numbers_of(reply: Replayed) -> Shown {
     }
 }
 
-fn show(case: u32, list: Shown, steps: Shown) {
+fn show(rt: &impl Print, case: u32, list: Shown, steps: Shown) -> io::Result<()> {
     trial::show(
+        rt,
         b"",
         &[
             case,
@@ -62,7 +67,7 @@ fn show(case: u32, list: Shown, steps: Shown) {
             steps.file,
             steps.line,
         ],
-    );
+    )
 }
 
 // The step in nine numbers from this place on.
@@ -116,7 +121,12 @@ fn try_list(table: &[u8], list: &[u32]) -> Shown {
 }
 
 // The case behind a header: behind the table's bytes stand bytes 10.
-fn try_case(file: i32, header: &[u8; 51], case: u32) {
+fn try_case<F: Read>(
+    rt: &impl Print,
+    file: &mut F,
+    header: &[u8; 51],
+    case: u32,
+) -> io::Result<()> {
     let mut table = [10u8; 41000];
     let mut list = [0u32; 221];
     trial::take(file, &mut table, trial::field(header, 0));
@@ -124,27 +134,35 @@ fn try_case(file: i32, header: &[u8; 51], case: u32) {
     let n = trial::take_numbers(file, trial::field(header, 2), &mut list);
     let whole = try_list(bytes, trial::front(&list, n));
     let steps = try_steps(bytes, &list, n);
-    show(case, whole, steps);
+    show(rt, case, whole, steps)
 }
 
 // The next case, if there is one.
-fn next_case(file: i32, case: u32) -> bool {
+fn next_case<F: Read>(rt: &impl Print, file: &mut F, case: u32) -> io::Result<bool> {
     let mut header = [b'0'; 51];
-    if io::read_full(file, &mut header) < HEADER {
-        return false;
+    if trial::read_full(file, &mut header) < HEADER {
+        return Ok(false);
     }
-    try_case(file, &header, case);
-    true
+    try_case(rt, file, &header, case)?;
+    Ok(true)
 }
 
-fn main() {
-    let file = os::open_read(b"cases");
+// All cases of an open file, a thousand at most.
+fn try_cases<F: Read>(rt: &impl Print, file: &mut F) -> io::Result<()> {
     let mut case = 1;
     while case <= 1000 {
-        if next_case(file, case) {
+        if next_case(rt, file, case)? {
             case += 1;
         } else {
-            return;
+            return Ok(());
         }
     }
+    Ok(())
+}
+
+fn main(rt: HostRuntime) -> io::Result<()> {
+    if let Some(mut file) = trial::open(&rt, b"cases") {
+        try_cases(&rt, &mut file)?;
+    }
+    Ok(())
 }

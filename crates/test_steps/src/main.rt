@@ -1,6 +1,11 @@
 // Tries `step` and `successors`: compares what they give for tables with the independent engine's results, and prints how many steps there were and were not, how many rows of successors were written, how many calls were refused, and how many cases differ.
 // All of a reply is compared, and all of a buffer of which the first words are lent.
+#![tactic(auto)]
+
 use checker::{Leads, Refusal, Written};
+use std::io;
+use std::io::Read;
+use std::rt::Files;
 use trial::{FILL, START};
 
 // A case's header: twenty fields (the engine's src/trials/steps.rs says what they are). A probe has six: first number, stride, count, length of the buffer, digest of the steps, digest of the successors.
@@ -116,76 +121,91 @@ fn same_probe(table: &[u8], header: &[u8], at: usize, counts: &mut [u32]) -> boo
 }
 
 // Counts a case, and names one that differs.
-fn count(counts: &mut [u32], case: u32, same: bool) {
+fn count(rt: &impl Print, counts: &mut [u32], case: u32, same: bool) -> io::Result<()> {
     trial::add(counts, 0, 1);
     if !same {
         trial::add(counts, 6, 1);
-        trial::show(b"differs ", &[case]);
+        trial::show(rt, b"differs ", &[case])?;
     }
+    Ok(())
 }
 
 // The probes of a table.
-fn try_probes(table: &[u8], header: &[u8], counts: &mut [u32], case: u32) {
+fn try_probes(
+    rt: &impl Print,
+    table: &[u8],
+    header: &[u8],
+    counts: &mut [u32],
+    case: u32,
+) -> io::Result<()> {
     let first = same_probe(table, header, 2, counts);
     let second = same_probe(table, header, 8, counts);
     let third = same_probe(table, header, 14, counts);
-    count(counts, case, first & second & third);
+    count(rt, counts, case, first & second & third)
 }
 
 // The case behind a header: behind the table's bytes stand bytes 10.
-fn try_case(file: i32, header: &[u8; 340], counts: &mut [u32], case: u32) {
+fn try_case<F: Read>(
+    rt: &impl Print,
+    file: &mut F,
+    header: &[u8; 340],
+    counts: &mut [u32],
+    case: u32,
+) -> io::Result<()> {
     let mut table = [10u8; 41000];
     trial::take(file, &mut table, trial::field(header, 0));
     try_probes(
+        rt,
         trial::front8(&table, trial::field(header, 1) as usize),
         header,
         counts,
         case,
-    );
+    )
 }
 
 // The next case, if there is one.
-fn next_case(file: i32, counts: &mut [u32], case: u32) -> bool {
+fn next_case<F: Read>(
+    rt: &impl Print,
+    file: &mut F,
+    counts: &mut [u32],
+    case: u32,
+) -> io::Result<bool> {
     let mut header = [b'0'; 340];
-    if io::read_full(file, &mut header) < HEADER {
-        return false;
+    if trial::read_full(file, &mut header) < HEADER {
+        return Ok(false);
     }
-    try_case(file, &header, counts, case);
-    true
+    try_case(rt, file, &header, counts, case)?;
+    Ok(true)
 }
 
 // All cases of an open file, a thousand at most.
-fn try_cases(file: i32, counts: &mut [u32]) {
+fn try_cases<F: Read>(rt: &impl Print, file: &mut F, counts: &mut [u32]) -> io::Result<()> {
     let mut case = 1;
     while case <= 1000 {
-        if next_case(file, counts, case) {
+        if next_case(rt, file, counts, case)? {
             case += 1;
         } else {
-            return;
+            return Ok(());
         }
     }
+    Ok(())
 }
 
-fn show(name: &[u8], counts: &[u32; 7]) {
-    trial::show(name, counts);
+fn show(rt: &impl Print, name: &[u8], counts: &[u32; 7]) -> io::Result<()> {
+    trial::show(rt, name, counts)
 }
 
 // A group: its file has its name.
-fn group(path: &[u8], name: &[u8]) {
+fn group<R: Files + Print>(rt: &R, path: &[u8], name: &[u8]) -> io::Result<()> {
     let mut counts = [0u32; 7];
-    let file = os::open_read(path);
-    if 0 <= file {
-        try_cases(file, &mut counts);
-        libc::close(file);
+    if let Some(mut file) = trial::open(rt, path) {
+        try_cases(rt, &mut file, &mut counts)?;
     }
-    show(name, &counts);
+    show(rt, name, &counts)
 }
 
-fn main() {
-    io::write_all(
-        libc::STDOUT_FILENO,
-        b"group      cases     yes      no refused written refused  differ\n",
-    );
-    group(b"valid", b"valid   ");
-    group(b"damaged", b"damaged ");
+fn main(rt: HostRuntime) -> io::Result<()> {
+    rt.write_all(b"group      cases     yes      no refused written refused  differ\n")?;
+    group(&rt, b"valid", b"valid   ")?;
+    group(&rt, b"damaged", b"damaged ")
 }

@@ -1,7 +1,7 @@
 // What the test programs share: parts of buffers, hexadecimal fields, digests, what a call left alone, files of cases, and counts in columns. No function asks anything of its caller.
 #![tactic(auto)]
 
-ghost use Rattle.std.specs.Prelude.{◌≤◌, length};
+ghost use Rattle.std.specs.Prelude.{◌≤◌, length, IfSome};
 
 use std::io::Read;
 use std::rt::Files;
@@ -254,6 +254,14 @@ pub fn read_full<F: Read>(file: &mut F, bytes: &mut [u8]) -> usize
         }
     }
     done
+}
+
+// Reads the file of this name to the front of the bytes, as far as they go; says how many came, none where it cannot be opened.
+pub fn read_file(rt: &impl Files, name: &[u8], bytes: &mut [u8]) -> Option<usize>
+    ensures { IfSome result (λ n. n ≤ length bytes.new) }
+{
+    let mut file = open(rt, name)?;
+    Some(read_full(&mut file, bytes))
 }
 
 // Reads so many bytes to the front of a buffer that has room for them; says how many came.
