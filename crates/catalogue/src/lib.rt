@@ -1,4 +1,6 @@
 // Classes as lists of labels: the constant catalogue, class number and labels of contents, contents given back, and matrices.
+#![tactic(auto)]
+
 pub mod flat;
 pub mod listing;
 pub mod matrices;

@@ -1,4 +1,6 @@
 // The checker's public calls: none asks anything of its caller, and each determines its reply and every lent buffer.
+#![tactic(auto)]
+
 pub mod editor;
 mod given;
 pub mod goal;

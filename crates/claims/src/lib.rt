@@ -1,4 +1,6 @@
 // What the public calls answer, as types: an enum for each kind of answer. What an answer says is in specs/, why it is so in proofs/.
+#![tactic(auto)]
+
 use refusals::Refusal;
 
 // The answer to a target: never reached, or after so many steps; and how many configurations are reached.

@@ -1,4 +1,6 @@
 // Contents, classes and matrices alone: the calls that need no table. None asks anything of its caller.
+#![tactic(auto)]
+
 ghost use Rattle.std.specs.Prelude.{◌≡◌, List, [], ◌∷◌, ℕ, ◌*◌, ◌≤◌, ◌<◌, length, take};
 ghost use Rattle.refusals.specs.Judged.{Judged, refusal, told};
 ghost use Rattle.classes.specs.Classes.{lists};

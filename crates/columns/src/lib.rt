@@ -1,4 +1,5 @@
 // Numbers in columns: how wide the fields of a line are, and numbers right-justified in a lent line, whose other bytes are kept.
+#![tactic(auto)]
 
 ghost use Rattle.std.specs.Prelude.{cond, ◌&&◌, not, ◌≡◌, ◌+◌, ◌%◌, ◌≤◌, eqb, length, get_or};
 ghost use Rattle.std.proofs.lemmas.List.Edits.{sets};

@@ -1,6 +1,8 @@
 // The form of a read table or question: what stands in it, by small functions that speak of its automaton; its transitions and conditions as small structs over
 // slots, and the test whether conditions hold.
 // Slots 0 and 1 are the constants, 2 to 6 the registers, 7 to 9 the parameters. The same code serves identifiers and class labels.
+#![tactic(auto)]
+
 mod rows;
 
 ghost use Rattle.std.specs.Prelude.{◌≡◌, map, ℕ, ◌+◌, ◌*◌, ◌<◌, ◌≤◌, T, eqb, length, get_or, take};

@@ -1,4 +1,5 @@
 // Labels: the labels of values, given the identifiers that have one already, and the smallest identifiers that have given labels.
+#![tactic(auto)]
 
 ghost use Rattle.std.specs.Prelude.{◌≡◌, [], ◌∷◌, ◌++◌, ℕ, ◌<◌, ◌≤◌, length, get_or, take};
 ghost use Rattle.graphs.specs.Lists.{eq_list};

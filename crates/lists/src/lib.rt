@@ -1,4 +1,5 @@
 // Lists in arrays and buffers, and searches through numbers in a row: definitions in specs/, laws and turns of loops in proofs/; and the copy of a list into a buffer.
+#![tactic(auto)]
 
 ghost use Rattle.std.specs.Prelude.{◌≡◌, ◌+◌, ◌≤◌, length};
 ghost use Rattle.std.proofs.Math.Seq.{paste};

@@ -1,4 +1,5 @@
 // Opening a table: it is read, the labels of its classes are written out once, and a table without a start is refused.
+#![tactic(auto)]
 
 ghost use Rattle.std.specs.Prelude.{◌≡◌, length, replicate};
 ghost use Rattle.automata.specs.Automaton.{Automaton};

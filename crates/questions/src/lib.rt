@@ -1,4 +1,6 @@
 // The reader of questions: the rules for a row, and the loop over the lines.
+#![tactic(auto)]
+
 ghost use Rattle.std.specs.Prelude.{◌≡◌, ◌+◌, ◌≤◌, length, get_or};
 ghost use Rattle.automata.specs.Questions.{row};
 ghost use Rattle.columns.specs.Widths.{largest};

@@ -1,4 +1,6 @@
 // The reader of tables and targets: the rules for their lines, and the loop over them.
+#![tactic(auto)]
+
 ghost use Rattle.std.specs.Prelude.{◌≡◌, true, cond, ◌+◌, ◌≤◌, T, leb, length};
 ghost use Rattle.columns.specs.Widths.{largest};
 ghost use Rattle.graphs.specs.Lists.{all_of};

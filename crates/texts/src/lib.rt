@@ -1,4 +1,6 @@
 // The reader of a question as a line of text: question, pair and atom call each other, going forward over the bytes, and write the rows, of which the first 32 are kept.
+#![tactic(auto)]
+
 ghost use Rattle.std.specs.Prelude.{◌≢◌, ◌≡◌, ◌+◌, ◌≤◌, ◌<◌, length, get_or, take};
 ghost use Rattle.refusals.specs.Judged.{refusal};
 ghost use Rattle.automata.specs.Questions.{row};

@@ -40,8 +40,8 @@ loop-again c =
       simp length-set l.invariant.2,
       rw l.invariant.3 (paste-next a.out.now a.at s l.j c.if-contents-j.out (omega arith) (omega arith)
           (elim c.if-contents-j.branch [
-          then-contents-j w ↦ e ∙ rw (eq-eqb a.x (get_or a.contents l.j 0) (sym w.if-contents-j.true)) (sym w.out-is)
-          | else-contents-j w ↦ e ∙ rw (ne_eqb a.x (get_or a.contents l.j 0) (λ q. w.if-contents-j.false (sym q))) (sym w.out-is)
+            | then-contents-j w ↦ e ∙ rw (eq-eqb a.x (get_or a.contents l.j 0) (sym w.if-contents-j.true)) (sym w.out-is)
+            | else-contents-j w ↦ e ∙ rw (ne_eqb a.x (get_or a.contents l.j 0) (λ q. w.if-contents-j.false (sym q))) (sym w.out-is)
           ])),
     )
 

@@ -61,18 +61,18 @@ loop-again c =
     let p : ℕ → Bool = λ m. serves a.r a.c (row catalogue m) in
     let all = serving_rows a.r a.c in
     elim c.if-row_serves.branch [
-    then-row_serves w ↦ (
-      q.0,
-      rw w.rows-is (simp length-set q.1),
-      q.2,
-      rw (w.rows-is, w.count-is) (filling_kept p 674 all a.rows.now l.rows l.count l.n q.3 (omega arith) (sym (tested c.before) ∙ w.if-row_serves.true) q.2),
-    )
-    | else-row_serves w ↦ (
-      q.0,
-      rw w.rows-is q.1,
-      q.2,
-      rw (w.rows-is, w.count-is) (filling_passed p 674 all a.rows.now l.rows l.count l.n q.3 (omega arith) (sym (tested c.before) ∙ w.if-row_serves.false)),
-    )
+      | then-row_serves w ↦ (
+        q.0,
+        rw w.rows-is (simp length-set q.1),
+        q.2,
+        rw (w.rows-is, w.count-is) (filling_kept p 674 all a.rows.now l.rows l.count l.n q.3 (omega arith) (sym (tested c.before) ∙ w.if-row_serves.true) q.2),
+      )
+      | else-row_serves w ↦ (
+        q.0,
+        rw w.rows-is q.1,
+        q.2,
+        rw (w.rows-is, w.count-is) (filling_passed p 674 all a.rows.now l.rows l.count l.n q.3 (omega arith) (sym (tested c.before) ∙ w.if-row_serves.false)),
+      )
     ]
 
 returns : tie.Need-returns invariant-loop decreases-loop
