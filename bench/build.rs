@@ -1,4 +1,4 @@
-//! Links the checker's static library where it has been built (`rt staticlib checker`).
+//! Links the checker's static library where it has been built (`tools/staticlib`).
 
 use std::path::Path;
 

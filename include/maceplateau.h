@@ -1,6 +1,6 @@
 /* The segment workflow checker for C: three functions of bytes and lengths that give one number.
  *
- * Link target/staticlib/libchecker.a, which `rt staticlib checker` writes (x86-64 Linux). It needs memcpy and memset, nothing else.
+ * Link target/staticlib/libchecker.a, which `tools/staticlib` writes (x86-64 Linux). It needs memcpy and memset, nothing else.
  *
  * The functions take any bytes of any length and always return. They read the two files, write nothing that the caller can see,
  * allocate nothing and have no global state: calls in several threads do not disturb each other. A pointer may be NULL where its length is 0.

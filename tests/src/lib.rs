@@ -30,15 +30,15 @@ pub fn ask_text(table: &[u8], text: &[u8]) -> u32 {
 
 #[cfg(not(checker))]
 pub fn reach(_: &[u8], _: &[u8]) -> u32 {
-    panic!("target/staticlib/libchecker.a is missing: rt staticlib checker")
+    panic!("target/staticlib/libchecker.a is missing: tools/staticlib")
 }
 
 #[cfg(not(checker))]
 pub fn ask(_: &[u8], _: &[u8]) -> u32 {
-    panic!("target/staticlib/libchecker.a is missing: rt staticlib checker")
+    panic!("target/staticlib/libchecker.a is missing: tools/staticlib")
 }
 
 #[cfg(not(checker))]
 pub fn ask_text(_: &[u8], _: &[u8]) -> u32 {
-    panic!("target/staticlib/libchecker.a is missing: rt staticlib checker")
+    panic!("target/staticlib/libchecker.a is missing: tools/staticlib")
 }

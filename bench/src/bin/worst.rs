@@ -342,7 +342,7 @@ fn main() {
         }
     };
     if !checker::LINKED {
-        eprintln!("the checker is not linked: rt staticlib checker");
+        eprintln!("the checker is not linked: tools/staticlib");
         std::process::exit(1);
     }
     let seconds: f64 = seconds.parse().expect("seconds");
