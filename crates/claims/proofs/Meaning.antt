@@ -216,14 +216,17 @@ reach_code-means s g = record {
     zero : (a : Automaton) (x : Target) (r : Reaching) (b : ReachBuffers) → TargetAnswer s a x r ample b → (reach_code r ≡ 0) ↔ meaning.Never a x
     zero a x (Never count) b (never, _, _) = ((λ e. never), (λ n. refl))
     zero a x (Reached n count) b given = ((λ e. absurd (omega arith)), (λ never. absurd (never _ _ given.taken.shortest.reaches)))
+    zero a x (Refused r) b given = elim given [ ]
 
     one : (a : Automaton) (x : Target) (r : Reaching) (b : ReachBuffers) → TargetAnswer s a x r ample b → (reach_code r ≡ 1) ↔ ((v : List ℕ) × (ms : List Move) × Reaches a x v ms)
     one a x (Never count) b (never, _, _) = ((λ e. absurd (omega arith)), (λ (v, ms, reaches). absurd (never v ms reaches)))
     one a x (Reached n count) b given = ((λ e. (given.contents, given.moves, given.taken.shortest.reaches)), (λ r. refl))
+    one a x (Refused r) b given = elim given [ ]
 
     low : (a : Automaton) (x : Target) (r : Reaching) (b : ReachBuffers) → TargetAnswer s a x r ample b → 100 ≤ reach_code r → ⊥
     low a x (Never count) b answer h = omega arith
     low a x (Reached n count) b answer h = omega arith
+    low a x (Refused r) b answer h = elim answer [ ]
 
 pub ask_code-means : (w : Notation) (s q : List ℕ) → AskCodeMeans w s q (ask_code (ask_reply (question_files w s q)))
 ask_code-means w s q = record {
@@ -245,11 +248,14 @@ ask_code-means w s q = record {
         → (ask_code r ≡ 0) ↔ ((v : List ℕ) × T (permitted a v) × (Holds a f (initial a v) → ⊥))
     zero a f Yes u (holds, _) = ((λ e. absurd (omega arith)), (λ (v, ok, fails). absurd (fails (holds v ok))))
     zero a f (No k n) u (_, (v, fails, _)) = ((λ e. (v, fails.start, fails.fails)), (λ x. refl))
+    zero a f (not_asked r) u given = elim given [ ]
 
     one : (a : Automaton) (f : Formula Atom) (r : Asking) (v : List ℕ) → QuestionAnswer a f r wide.contents v → (ask_code r ≡ 1) ↔ HoldsAtStarts a f
     one a f Yes u (holds, _) = ((λ e. holds), (λ x. refl))
     one a f (No k n) u (_, (v, fails, _)) = ((λ e. absurd (omega arith)), (λ holds. absurd (fails.fails (holds v fails.start))))
+    one a f (not_asked r) u given = elim given [ ]
 
     low : (a : Automaton) (f : Formula Atom) (r : Asking) (v : List ℕ) → QuestionAnswer a f r wide.contents v → 100 ≤ ask_code r → ⊥
     low a f Yes u answer h = omega arith
     low a f (No k n) u answer h = omega arith
+    low a f (not_asked r) u answer h = elim answer [ ]

@@ -33,7 +33,7 @@ use Rattle.claims.specs.Files.{ReachBuffers, reach_buffers}
 use Rattle.claims.specs.Reachable.{RunTo, through, LeastRun, FirstPath, SearchClaim}
 use Rattle.claims.specs.Demand.{RunGiven, TargetAnswer, count_of, ReachClaim, FailsWith}
 use Rattle.claims.specs.declared.Reaching.{Reaching}
-use Rattle.claims.specs.declared.Reaching.TheVariants.{Never, Reached}
+use Rattle.claims.specs.declared.Reaching.TheVariants.{Never, Reached, Refused}
 use Rattle.claims.proofs.Least.{last_of, last_snoc}
 
 -- Least steps, first paths, the words and lists of a search
@@ -131,6 +131,9 @@ one_reach s a wf g r q b x y c d =
     go (Reached m i) (Reached m' j) p q n w l k =
         let (e, u, v) = one-run s a wf g m m' b x y p q in
         (λ i. Reached (e i) (n i), λ i. reach_buffers (w i) (l i) (k i) (u i) (v i))
+    go (Never i) (Refused x) p given n w l k = elim given [ ]
+    go (Reached m j) (Refused x) given q n w l k = elim q [ ]
+    go (Refused x) r p given n w l k = elim p [ ]
 
 -- The answer to a question
 
