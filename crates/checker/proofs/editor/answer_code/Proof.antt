@@ -8,18 +8,18 @@ use borrow.Author.Rules.{rules}
 use Rattle.checker.proofs.editor.answer_code.Statement.{statement}
 use Rattle.checker.proofs.editor.answer_code.Tie as tie
 
-decide-requires : tie.Need-decide-requires
-decide-requires c κs = let p = c.before.before.before.before.requires in (lent_as _ _ _ c.classes-in.ensures p.0, p.1, p.2, p.3)
+decide-requires : tie.Need-decide-answer-requires
+decide-requires c κs = let p = c.requires in (lent_as _ _ _ c.classes_in-n.ensures p.0, p.1, p.2, p.3)
 
-returns : tie.Need-returns
+returns : tie.Need-returns-in-Yes
 returns c =
-    let e = c.before.before.before.before.before.before.before.args in
-    yes_code (automaton_of e.form.now) (question (rows_of e.question.now e.count)) _ c.before.before.decide.ensures c.enum_told.given.1
+    let e = c.args in
+    yes_code (automaton_of e.form.now) (question (rows_of e.question.now e.count)) _ c.decide-answer.ensures c.in-Yes.is
 
-returns-2 : tie.Need-returns-2
+returns-2 : tie.Need-returns-in-No
 returns-2 c =
-    let e = c.before.before.before.before.before.before.before.args in
-    no_code (automaton_of e.form.now) (question (rows_of e.question.now e.count)) _ c.before.before.decide.ensures c.enum-told2.given.0.0 c.enum-told2.given.1
+    let e = c.args in
+    no_code (automaton_of e.form.now) (question (rows_of e.question.now e.count)) _ c.decide-answer.ensures c.in-No.field-0 c.in-No.is
 
 pub answer_code_spec : {M : Type 1} → statement M
 answer_code_spec =

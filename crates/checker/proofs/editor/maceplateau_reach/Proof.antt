@@ -8,8 +8,8 @@ use Rattle.checker.proofs.editor.maceplateau_reach.Tie as tie
 
 returns : tie.Need-returns
 returns c =
-    let a = c.before.before.before.args in
-    let e = c.reach-code.ensures in
+    let a = c.args in
+    let e = c.reach_code.ensures in
     (e, subst⁻¹ (ReachCodeMeans a.table.now a.target.now) e (reach_code-means a.table.now a.target.now))
 
 pub maceplateau_reach_spec : {M : Type 1} → statement M

@@ -11,53 +11,53 @@ use Rattle.checker.proofs.editor.reach_code.Statement.{statement}
 use Rattle.checker.proofs.editor.reach_code.Tie as tie
 
 -- the table, once it is accepted
-opened : (c : tie.After-enum-told) → Opened c.before.before.before.before.before.before.before.args.table.now c.before.before.open-table.new.1.0 c.before.before.open-table.new.1.1.0
-opened c = let o = c.before.before.open-table.ensures in told_opened _ _ _ _ o.0 o.1 o.2 c.enum_told.given.1
+opened : (c : tie.In-Accepted) → Opened c.args.table.now c.open_table-opened.new.form c.open_table-opened.new.labels
+opened c = let o = c.open_table-opened.ensures in told_opened _ _ _ _ o.0 o.1 o.2 c.in-Accepted.is
 
 -- and the target
-aimed : (c : tie.After-enum-told2) → Targeted c.before.before.before.before.before.before.before.before.before.before.before.before.args.table.now c.before.before.before.before.before.before.before.before.before.before.before.before.args.target.now c.before.before.before.before.before.before.before.open-table.new.1.0 c.before.before.read-target.new.1.1.0
-aimed c = let q = c.before.before.read-target.ensures in told-target _ _ _ (opened c.before.before.before.before.before).outcome _ _ q.0 q.1 c.enum-told2.given.1
+aimed : (c : tie.In-Accepted-reply) → Targeted c.args.table.now c.args.target.now c.open_table-opened.new.form c.read_target-reply.new.t
+aimed c = let q = c.read_target-reply.ensures in told-target _ _ _ (opened c.before.before.before.before).outcome _ _ q.0 q.1 c.in-Accepted-reply.is
 
 add-result : tie.Need-overflow_add-result
 add-result c =
-    let e = c.before.before.before.before.before.before.before.before.before.args in
-    let d = told-refused (open_table e.table.now) _ _ c.before.before.before.before.open-table.ensures.0 c.before.before.opened.given.1 in
+    let e = c.args in
+    let d = told-refused (open_table e.table.now) _ _ c.open_table-opened.ensures.0 c.in-Refused.is in
     omega (arith, target_files-low e.table.now e.target.now _ (target-table-refused e.table.now e.target.now _ d))
 
-add-result-2 : tie.Need-overflow_add-result-2
+add-result-2 : tie.Need-overflow_add-result-in-Refused-reply
 add-result-2 c =
-    let e = c.before.before.before.before.before.before.before.before.before.before.before.before.before.before.args in
-    omega (arith, target_files-low e.table.now e.target.now _ (told-target-refused e.table.now e.target.now _ (opened c.before.before.before.before.before.before.before).outcome _ _ c.before.before.before.before.read-target.ensures.0 c.before.before.reply.given.1))
+    let e = c.args in
+    omega (arith, target_files-low e.table.now e.target.now _ (told-target-refused e.table.now e.target.now _ (opened c.before.before.before.before.before).outcome _ _ c.read_target-reply.ensures.0 c.in-Refused-reply.is))
 
-slice-aggregate-read-target : tie.Need-slice-aggregate-read-target
+slice-aggregate-read-target : tie.Need-slice_bounds-read_target-end
 slice-aggregate-read-target c = sym (opened c.before).readable.long
 
-slice-aggregate-verdict : tie.Need-slice-aggregate-verdict
-slice-aggregate-verdict c = sym (opened c.before.before.before.before.before.before).readable.long
+slice-aggregate-verdict : tie.Need-slice_bounds-verdict-end
+slice-aggregate-verdict c = sym (opened c.before.before.before.before.before).readable.long
 
-slice-aggregate-verdict-2 : tie.Need-slice-aggregate-verdict-2
+slice-aggregate-verdict-2 : tie.Need-slice_bounds-verdict-end-in-Accepted-reply
 slice-aggregate-verdict-2 c = sym (aimed c.before.before).long
 
-slice-aggregate-verdict-3 : tie.Need-slice-aggregate-verdict-3
-slice-aggregate-verdict-3 c = sym (opened c.before.before.before.before.before.before.before.before).long
+slice-aggregate-verdict-3 : tie.Need-slice_bounds-verdict-end-in-Accepted-reply-2
+slice-aggregate-verdict-3 c = sym (opened c.before.before.before.before.before.before.before).long
 
 verdict-requires : tie.Need-verdict-requires
-verdict-requires c κs = let a = aimed c.before.before.before in ((opened c.before.before.before.before.before.before.before.before).lent, a.long, a.fits)
+verdict-requires c κs = let a = aimed c.before.before.before in ((opened c.before.before.before.before.before.before.before).lent, a.long, a.fits)
 
-returns : tie.Need-returns
+returns : tie.Need-returns-in-Refused
 returns c =
-    let e = c.before.before.before.before.before.before.before.before.before.args in
-    let d = told-refused (open_table e.table.now) _ _ c.before.before.before.before.open-table.ensures.0 c.before.before.opened.given.1 in
+    let e = c.args in
+    let d = told-refused (open_table e.table.now) _ _ c.open_table-opened.ensures.0 c.in-Refused.is in
     refused_code e.table.now e.target.now _ (target-table-refused e.table.now e.target.now _ d)
 
-returns-2 : tie.Need-returns-2
+returns-2 : tie.Need-returns-in-Refused-reply
 returns-2 c =
-    let e = c.before.before.before.before.before.before.before.before.before.before.before.before.before.before.args in
-    refused_code e.table.now e.target.now _ (told-target-refused e.table.now e.target.now _ (opened c.before.before.before.before.before.before.before).outcome _ _ c.before.before.before.before.read-target.ensures.0 c.before.before.reply.given.1)
+    let e = c.args in
+    refused_code e.table.now e.target.now _ (told-target-refused e.table.now e.target.now _ (opened c.before.before.before.before.before).outcome _ _ c.read_target-reply.ensures.0 c.in-Refused-reply.is)
 
-returns-3 : tie.Need-returns-3
+returns-3 : tie.Need-returns-in-Accepted-reply
 returns-3 c =
-    let e = c.before.before.before.before.before.before.before.before.before.before.before.before.before.before.before.before.args in
+    let e = c.args in
     found_code e.table.now e.target.now _ _ (aimed c.before.before.before.before).files _ c.verdict.ensures
 
 pub reach_code_spec : {M : Type 1} → statement M

@@ -8,7 +8,7 @@ use Rattle.checker.proofs.given.classes_in.Statement.{statement}
 use Rattle.checker.proofs.given.classes_in.Tie as tie
 
 returns : tie.Need-returns
-returns c = c.class-count.ensures ∙ ap₂ (λ q k. length (lists q k)) c.before.before.registers.ensures.0 c.before.constants.ensures.0
+returns c = c.class_count.ensures ∙ ap₂ (λ q k. length (lists q k)) c.registers.ensures.0 c.constants.ensures.0
 
 pub classes_in_spec : {M : Type 1} → statement M
 classes_in_spec =

@@ -19,24 +19,24 @@ use Rattle.checker.proofs.question.read_rows.Tie as tie
 abbrev Read : (a : Automaton) (q before after : List ℕ) (r : Reply) → Notation → Type 0
 Read a q before after r w = (r ≡ reply_of (question_to w a q)) × (after ≡ form_of (question_to w a q) before)
 
-returns : tie.Need-returns
+returns : tie.Need-returns-in-Rows
 returns c =
-    let a = c.before.before.before.before.before.before.before.before.before.args in
-    let e = c.read-question.ensures in
-    let r = c.before.before.before.before.before.before.registers.ensures.0 in
-    let k = c.before.before.before.before.before.constants.ensures.0 in
-    let l = c.before.before.before.before.locations.ensures.0 in
-    subst⁻¹ (Read (automaton_of a.form.now) a.question.now a.rows.now _ _) c.before.before.enum_told.given.1
+    let a = c.args in
+    let e = c.read_question.ensures in
+    let r = c.registers-registers.ensures.0 in
+    let k = c.constants-constants.ensures.0 in
+    let l = c.locations-locations.ensures.0 in
+    subst⁻¹ (Read (automaton_of a.form.now) a.question.now a.rows.now _ _) c.in-Rows.is
     (e.0 ∙ (λ i. reply_of (read_question (r i) (k i) (l i) a.question.now)), e.1 ∙ (λ i. form_of (read_question (r i) (k i) (l i) a.question.now) a.rows.now))
 
-returns-2 : tie.Need-returns-2
+returns-2 : tie.Need-returns-in-Text
 returns-2 c =
-    let a = c.before.before.before.before.before.before.before.before.before.args in
-    let e = c.read-text.ensures in
-    let r = c.before.before.before.before.before.before.registers.ensures.0 in
-    let k = c.before.before.before.before.before.constants.ensures.0 in
-    let l = c.before.before.before.before.locations.ensures.0 in
-    subst⁻¹ (Read (automaton_of a.form.now) a.question.now a.rows.now _ _) c.before.before.enum-told2.given.1
+    let a = c.args in
+    let e = c.read_text.ensures in
+    let r = c.registers-registers.ensures.0 in
+    let k = c.constants-constants.ensures.0 in
+    let l = c.locations-locations.ensures.0 in
+    subst⁻¹ (Read (automaton_of a.form.now) a.question.now a.rows.now _ _) c.in-Text.is
     (e.0 ∙ (λ i. reply_of (read_text (r i) (k i) (l i) a.question.now)), e.1 ∙ (λ i. form_of (read_text (r i) (k i) (l i) a.question.now) a.rows.now))
 
 pub read_rows_spec : {M : Type 1} → statement M

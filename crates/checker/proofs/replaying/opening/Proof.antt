@@ -9,16 +9,16 @@ use borrow.Author.Rules.{rules}
 use Rattle.checker.proofs.replaying.opening.Statement.{statement}
 use Rattle.checker.proofs.replaying.opening.Tie as tie
 
-returns : tie.Need-returns
+returns : tie.Need-returns-in-Accepted
 returns c =
-    let q = c.before.before.open-table.ensures in
-    sym (ap opened_of (told_opened c.before.before.before.before.before.before.args.table.now _ _ _ q.0 q.1 q.2 c.enum_told.given.1).outcome)
+    let q = c.open_table-reply.ensures in
+    sym (ap opened_of (told_opened c.args.table.now _ _ _ q.0 q.1 q.2 c.in-Accepted.is).outcome)
 
-returns-2 : tie.Need-returns-2
+returns-2 : tie.Need-returns-in-Refused
 returns-2 c =
-    let a = c.before.before.before.before.before.before.before.args in
-    let q = c.before.before.before.open-table.ensures in
-    value-refused a.table.now _ (told-refused (open_table a.table.now) _ _ q.0 c.before.reply.given.1)
+    let a = c.args in
+    let q = c.open_table-reply.ensures in
+    value-refused a.table.now _ (told-refused (open_table a.table.now) _ _ q.0 c.in-Refused.is)
 
 pub opening_spec : {M : Type 1} → statement M
 opening_spec =

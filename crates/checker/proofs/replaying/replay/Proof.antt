@@ -14,31 +14,31 @@ use Rattle.checker.proofs.replaying.replay.Statement.{statement}
 use Rattle.checker.proofs.replaying.replay.Tie as tie
 
 -- the table, once it is accepted
-opened : (c : tie.After-enum-told) → Opened c.before.before.before.before.before.before.before.before.before.args.table.now c.before.before.open-table.new.1.0 c.before.before.open-table.new.1.1.0
-opened c = let q = c.before.before.open-table.ensures in told_opened _ _ _ _ q.0 q.1 q.2 c.enum_told.given.1
+opened : (c : tie.In-Accepted) → Opened c.args.table.now c.open_table-reply.new.form c.open_table-reply.new.labels
+opened c = let q = c.open_table-reply.ensures in told_opened _ _ _ _ q.0 q.1 q.2 c.in-Accepted.is
 
-returns : tie.Need-returns
+returns : tie.Need-returns-then-not-whole
 returns c =
-    let a = c.before.before.before.before.args in
-    let x = short-refused a.table.now a.run.now (sym c.before.whole.ensures ∙ not-true _ c.if1.true) in
+    let a = c.args in
+    let x = short-refused a.table.now a.run.now (sym c.whole.ensures ∙ c.if-not-whole.true) in
     (x, ap replayed_numbers x ∙ replay_told (replay_of a.table.now a.run.now), subst⁻¹ (ReplayMeans a.table.now a.run.now) x (replay_means a.table.now a.run.now))
 
-slice-aggregate-replay : tie.Need-slice-aggregate-replay
+slice-aggregate-replay : tie.Need-slice_bounds-replay-end
 slice-aggregate-replay c = sym (opened c.before).readable.long
 
 replay-requires : tie.Need-replay-requires
-replay-requires c κs = ((opened c.before).readable, whole_is c.before.before.before.before.before.before.before.before.before.before.args.run.now (sym c.before.before.before.before.before.before.before.whole.ensures ∙ not-false _ c.before.before.before.before.before.before.if1.false))
+replay-requires c κs = ((opened c.before).readable, whole_is c.args.run.now (sym c.whole.ensures ∙ c.if-not-whole.false))
 
-returns-2 : tie.Need-returns-2
+returns-2 : tie.Need-returns-in-Accepted
 returns-2 c =
-    let a = c.before.before.before.before.before.before.before.before.before.before.before.before.args in
-    let x = run-judged a.table.now a.run.now _ _ _ (sym c.before.before.before.before.before.before.before.before.before.whole.ensures ∙ not-false _ c.before.before.before.before.before.before.before.before.if1.false) (opened c.before.before.before).outcome c.before.replay.ensures c.reply-of.ensures in
+    let a = c.args in
+    let x = run-judged a.table.now a.run.now _ _ _ (sym c.whole.ensures ∙ c.if-not-whole.false) (opened c.before.before.before).outcome c.replay.ensures c.reply_of.ensures in
     (x, ap replayed_numbers x ∙ replay_told (replay_of a.table.now a.run.now), subst⁻¹ (ReplayMeans a.table.now a.run.now) x (replay_means a.table.now a.run.now))
 
-returns-3 : tie.Need-returns-3
+returns-3 : tie.Need-returns-in-Refused
 returns-3 c =
-    let a = c.before.before.before.before.before.before.before.before.before.before.args in
-    let x = table-refused a.table.now a.run.now _ (sym c.before.before.before.before.before.before.before.whole.ensures ∙ not-false _ c.before.before.before.before.before.before.if1.false) (told-refused (open_table a.table.now) _ _ c.before.before.before.open-table.ensures.0 c.before.reply.given.1) in
+    let a = c.args in
+    let x = table-refused a.table.now a.run.now _ (sym c.whole.ensures ∙ c.if-not-whole.false) (told-refused (open_table a.table.now) _ _ c.open_table-reply.ensures.0 c.in-Refused.is) in
     (x, ap replayed_numbers x ∙ replay_told (replay_of a.table.now a.run.now), subst⁻¹ (ReplayMeans a.table.now a.run.now) x (replay_means a.table.now a.run.now))
 
 pub replay_spec : {M : Type 1} → statement M

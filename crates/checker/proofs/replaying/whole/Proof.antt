@@ -5,11 +5,11 @@ use native.Mathlib.Omega.{arith}
 use Rattle.checker.proofs.replaying.whole.Statement.{statement}
 use Rattle.checker.proofs.replaying.whole.Tie as tie
 
-returns : tie.Need-returns
-returns c = whole-short c.before.args.n (omega arith)
+returns : tie.Need-returns-then-n-lt5
+returns c = whole-short c.args.n (omega arith)
 
-returns-2 : tie.Need-returns-2
-returns-2 c = whole_long c.before.args.n (omega arith)
+returns-2 : tie.Need-returns
+returns-2 c = whole_long c.args.n (omega arith)
 
 pub whole_spec : {M : Type 1} → statement M
 whole_spec = tie.close (tie.spec returns returns-2)
