@@ -15,8 +15,8 @@ opened : (c : tie.In-Accepted) → Opened c.args.table.now c.open_table-opened.n
 opened c = let o = c.open_table-opened.ensures in told_opened _ _ _ _ o.0 o.1 o.2 c.in-Accepted.is
 
 -- and the question
-asked : (c : tie.In-Accepted-reply-2) → Questioned c.args.notation c.args.table.now c.args.question.now c.open_table-opened.new.form c.read_rows-reply.new.rows c.reply-in-Accepted-reply-1.given.0.0
-asked c = let q = c.read_rows-reply.ensures in told-rows _ _ _ _ (opened c.before.before.before.before.before).outcome _ _ _ _ q.0 q.1 c.reply-in-Accepted-reply-1.given.1
+asked : (c : tie.In-Accepted-reply) → Questioned c.args.notation c.args.table.now c.args.question.now c.open_table-opened.new.form c.read_rows-reply.new.rows c.in-Accepted-reply.count
+asked c = let q = c.read_rows-reply.ensures in told-rows _ _ _ _ (opened c.before.before.before.before).outcome _ _ _ _ q.0 q.1 c.in-Accepted-reply.is
 
 add-result : tie.Need-overflow_add-result
 add-result c =
@@ -42,10 +42,10 @@ slice-aggregate-answer-code-2 : tie.Need-slice_bounds-answer_code-end-in-Accepte
 slice-aggregate-answer-code-2 c = sym (opened c.before.before.before.before.before.before).long
 
 slice-aggregate-answer-code-3 : tie.Need-slice_bounds-answer_code-end-in-Accepted-reply-2
-slice-aggregate-answer-code-3 c = sym (asked c.before.before.before.before).long
+slice-aggregate-answer-code-3 c = sym (asked c.before.before.before).long
 
 answer-code-requires : tie.Need-answer_code-requires
-answer-code-requires c κs = let q = asked c.before.before.before.before in ((opened c.before.before.before.before.before.before.before).lent, q.long, q.most, q.fits)
+answer-code-requires c κs = let q = asked c.before.before.before in ((opened c.before.before.before.before.before.before.before).lent, q.long, q.most, q.fits)
 
 returns : tie.Need-returns-in-Refused
 returns c =
@@ -61,7 +61,7 @@ returns-2 c =
 returns-3 : tie.Need-returns-in-Accepted-reply
 returns-3 c =
     let e = c.args in
-    answered_ask e.notation e.table.now e.question.now _ (asked c.before.before.before.before.before).files _ c.answer_code.ensures
+    answered_ask e.notation e.table.now e.question.now _ (asked c.before.before.before.before).files _ c.answer_code.ensures
 
 pub ask_code_spec : {M : Type 1} → statement M
 ask_code_spec =

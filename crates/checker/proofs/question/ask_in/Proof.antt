@@ -14,8 +14,8 @@ opened : (c : tie.In-Accepted) → Opened c.args.table.now c.open_table-opened.n
 opened c = let o = c.open_table-opened.ensures in told_opened _ _ _ _ o.0 o.1 o.2 c.in-Accepted.is
 
 -- and the question
-asked : (c : tie.In-Accepted-reply-2) → Questioned c.args.notation c.args.table.now c.args.question.now c.open_table-opened.new.form c.read_rows-reply.new.rows c.reply-in-Accepted-reply-1.given.0.0
-asked c = let q = c.read_rows-reply.ensures in told-rows _ _ _ _ (opened c.before.before.before.before.before).outcome _ _ _ _ q.0 q.1 c.reply-in-Accepted-reply-1.given.1
+asked : (c : tie.In-Accepted-reply) → Questioned c.args.notation c.args.table.now c.args.question.now c.open_table-opened.new.form c.read_rows-reply.new.rows c.in-Accepted-reply.count
+asked c = let q = c.read_rows-reply.ensures in told-rows _ _ _ _ (opened c.before.before.before.before).outcome _ _ _ _ q.0 q.1 c.in-Accepted-reply.is
 
 returns : tie.Need-returns-then-rows-lt10784
 returns c =
@@ -36,11 +36,11 @@ slice-aggregate-answer-2 : tie.Need-slice_bounds-answer-end-in-Accepted-reply
 slice-aggregate-answer-2 c = sym (opened c.before.before.before.before.before.before).long
 
 slice-aggregate-answer-3 : tie.Need-slice_bounds-answer-end-in-Accepted-reply-2
-slice-aggregate-answer-3 c = sym (asked c.before.before.before.before).long
+slice-aggregate-answer-3 c = sym (asked c.before.before.before).long
 
 answer-requires : tie.Need-answer-requires
 answer-requires c κs =
-    let q = asked c.before.before.before.before.before.before in
+    let q = asked c.before.before.before.before.before in
     ((opened c.before.before.before.before.before.before.before.before.before).lent, q.long, q.most, q.fits, c.if-rows-lt10784.false)
 
 returns-2 : tie.Need-returns-in-Refused
@@ -63,7 +63,7 @@ returns-4 c =
     let e = c.args in
     let b = ask_buffers e.rows.now e.contents.now in
     let q = c.answer.ensures in
-    answered_promise e.notation b e.table.now e.question.now _ (ask_roomy e.notation b e.table.now e.question.now c.if-rows-lt10784.false ∙ (asked c.before.before.before.before.before.before.before.before.before).files) _ _ _ q.0 q.1 q.2
+    answered_promise e.notation b e.table.now e.question.now _ (ask_roomy e.notation b e.table.now e.question.now c.if-rows-lt10784.false ∙ (asked c.before.before.before.before.before.before.before.before).files) _ _ _ q.0 q.1 q.2
 
 pub ask_in_spec : {M : Type 1} → statement M
 ask_in_spec =
