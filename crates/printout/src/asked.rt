@@ -10,7 +10,7 @@ ghost use Rattle.claims.specs.AnswerNumbers.{ask_numbers};
 ghost use Rattle.printout.specs.PrintedLines.{class_of, ask_printed};
 ghost use Rattle.printout.specs.Text.{AskText};
 
-use crate::files::{Output, Printed, read_file};
+use crate::files::{Printed, read_file};
 use crate::text::put_line;
 use checker::Asking;
 use claims::Notation;
@@ -107,19 +107,17 @@ pub fn put_asking(notation: Notation, table: &[u8], question: &[u8], text: &mut 
     put_asking_over(notation, table, question, &mut rows, text)
 }
 
-impl<R: Print> Output<'_, R> {
-    // Hands over the printout for these bytes of a table and a question; false where not all could be written.
-    fn hand_over_answer(
-        &self,
-        notation: Notation,
-        table: &[u8],
-        question: &[u8],
-        text: &[u8],
-    ) -> bool
-        requires { text.now ≡ file_bytes Answer (ask_printed (question_files notation table.now question.now)) }
-    {
-        self.rt.write_all(text).is_ok()
-    }
+// Hands over the printout for these bytes of a table and a question; false where not all could be written.
+fn hand_over(
+    rt: &impl Print,
+    notation: Notation,
+    table: &[u8],
+    question: &[u8],
+    text: &[u8],
+) -> bool
+    requires { text.now ≡ file_bytes Answer (ask_printed (question_files notation table.now question.now)) }
+{
+    rt.write_all(text).is_ok()
 }
 
 // Prints the answer for the files of these names: reads both into lent bytes, and hands the printout for what was read over, all at once. Of the
@@ -139,7 +137,7 @@ pub fn print_asking_over<R: Files + Print>(
     let t = read_file(rt, table_name, table);
     let q = read_file(rt, question_name, question);
     let n = put_asking(notation, &table[..t], &question[..q], text);
-    let all = Output { rt }.hand_over_answer(notation, &table[..t], &question[..q], &text[..n]);
+    let all = hand_over(rt, notation, &table[..t], &question[..q], &text[..n]);
     Printed {
         table: t,
         other: q,

@@ -1,4 +1,4 @@
-// Reading a file by name: one that cannot be read counts as empty. And the output, to which printouts are handed.
+// Reading a file by name: one that cannot be read counts as empty.
 ghost use Rattle.io.specs.Counts.{IsPrefixLen};
 
 use std::io::Read;
@@ -13,12 +13,6 @@ pub struct Printed {
     pub other: usize,
     pub text: usize,
     pub all: bool,
-}
-
-// Where printouts go: its methods, which stand beside the printouts, say what is handed over.
-#[derive(Drop)]
-pub(crate) struct Output<'a, R> {
-    pub(crate) rt: &'a R,
 }
 
 // Reads until the bytes are full or the file ends; 0 where a read fails.

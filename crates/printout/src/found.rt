@@ -7,7 +7,7 @@ ghost use Rattle.printout.specs.Document.{reach_bytes};
 ghost use Rattle.printout.specs.PrintedLines.{moments as moments_in, moment_count, reach_printed};
 ghost use Rattle.printout.specs.Text.{Put, ReachText};
 
-use crate::files::{Output, Printed, read_file};
+use crate::files::{Printed, read_file};
 use crate::text::{put_line, put_moments};
 use checker::Reaching;
 use columns::Sheet;
@@ -81,13 +81,11 @@ pub fn reach_text(table: &[u8], target: &[u8], text: &mut [u8]) -> usize
     put_answer(text, reply, &slots)
 }
 
-impl<R: Print> Output<'_, R> {
-    // Hands over the printout for these bytes of a table and a target; false where not all could be written.
-    fn hand_over(&self, table: &[u8], target: &[u8], text: &[u8]) -> bool
-        requires { text.now ≡ reach_bytes (reach_printed (target_files table.now target.now)) }
-    {
-        self.rt.write_all(text).is_ok()
-    }
+// Hands over the printout for these bytes of a table and a target; false where not all could be written.
+fn hand_over(rt: &impl Print, table: &[u8], target: &[u8], text: &[u8]) -> bool
+    requires { text.now ≡ reach_bytes (reach_printed (target_files table.now target.now)) }
+{
+    rt.write_all(text).is_ok()
 }
 
 // Prints the answer for the files of these names: reads both into lent bytes, and hands the printout for what was read over, all at once.
@@ -105,7 +103,7 @@ pub fn print_reaching_over<R: Files + Print>(
     let t = read_file(rt, table_name, table);
     let g = read_file(rt, target_name, target);
     let n = reach_text(&table[..t], &target[..g], text);
-    let all = Output { rt }.hand_over(&table[..t], &target[..g], &text[..n]);
+    let all = hand_over(rt, &table[..t], &target[..g], &text[..n]);
     Printed {
         table: t,
         other: g,

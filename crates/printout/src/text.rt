@@ -6,7 +6,6 @@ ghost use Rattle.columns.specs.Columns.{file_bytes};
 ghost use Rattle.printout.specs.PrintedLines.{shown, moments as moments_in};
 ghost use Rattle.printout.specs.Text.{Put};
 
-use crate::files::Output;
 use columns::Sheet;
 
 // Writes a line on this sheet from byte `at` on; returns where it ends.
@@ -52,13 +51,11 @@ pub fn put_moments(text: &mut [u8], at: usize, slots: &[u32], moments: usize) ->
     end
 }
 
-impl<R: Print> Output<'_, R> {
-    // Hands over a line with one number; false where not all of it could be written.
-    fn hand_over_line(&self, number: u32, text: &[u8]) -> bool
-        requires { text.now ≡ file_bytes Plain ((number ∷ []) ∷ []) }
-    {
-        self.rt.write_all(text).is_ok()
-    }
+// Hands over a line with one number; false where not all of it could be written.
+fn hand_over(rt: &impl Print, number: u32, text: &[u8]) -> bool
+    requires { text.now ≡ file_bytes Plain ((number ∷ []) ∷ []) }
+{
+    rt.write_all(text).is_ok()
 }
 
 // Prints a line of its own, as a case's number, from a lent text; false where not all of it could be written.
@@ -67,7 +64,7 @@ pub fn print_line_over(rt: &impl Print, number: u32, text: &mut [u8]) -> bool
     ensures { Put (file_bytes Plain ((number ∷ []) ∷ [])) 0 7 text.old text.new }
 {
     let end = put_line(text, 0, Sheet::Plain, &[number]);
-    Output { rt }.hand_over_line(number, &text[..end])
+    hand_over(rt, number, &text[..end])
 }
 
 // The same, over a text of its own.

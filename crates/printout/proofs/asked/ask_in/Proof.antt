@@ -14,17 +14,17 @@ use Rattle.printout.proofs.asked.ask_in.Tie as tie
 abbrev Given : (b : AskBuffers) (s q : List ℕ) (r : Asking) (contents : List ℕ) → Notation → Type 0
 Given b s q r contents w = (r ≡ ask_reply (ask_files w b s q)) × (contents ≡ ask_contents (ask_files w b s q) b.contents)
 
-returns : tie.Need-returns
+returns : tie.Need-returns-in-Rows
 returns c =
-    let a = c.before.before.before.before.before.before.before.before.before.before.args in
-    let k = c.before.before.ask.ensures in
-    subst⁻¹ (Given (ask_buffers a.rows.now a.contents.now) a.table.now a.question.now _ _) c.before.before.before.before.before.enum_told.given.1 (k.0, k.3)
+    let a = c.args in
+    let k = c.ask.ensures in
+    subst⁻¹ (Given (ask_buffers a.rows.now a.contents.now) a.table.now a.question.now _ _) c.in-Rows.is (k.0, k.3)
 
-returns-2 : tie.Need-returns-2
+returns-2 : tie.Need-returns-in-Text
 returns-2 c =
-    let a = c.before.before.before.before.before.before.before.before.before.before.args in
-    let k = c.before.before.ask-text.ensures in
-    subst⁻¹ (Given (ask_buffers a.rows.now a.contents.now) a.table.now a.question.now _ _) c.before.before.before.before.before.enum-told2.given.1 (k.0, k.3)
+    let a = c.args in
+    let k = c.ask_text.ensures in
+    subst⁻¹ (Given (ask_buffers a.rows.now a.contents.now) a.table.now a.question.now _ _) c.in-Text.is (k.0, k.3)
 
 pub ask_in_spec : {M : Type 1} → statement M
 ask_in_spec =

@@ -13,24 +13,24 @@ use borrow.Author.Rules.{rules}
 use Rattle.printout.proofs.asked.first_line.Statement.{statement}
 use Rattle.printout.proofs.asked.first_line.Tie as tie
 
-cast-t11 : tie.Need-overflow_cast-t11
-cast-t11 c = let h : c.before.before.reply.given.0.0 < 1000000 = subst (λ r. class_of r < 1000000) c.before.before.reply.given.1 c.before.before.before.before.requires in omega arith
+cast-t11 : tie.Need-overflow_cast-result
+cast-t11 c = let h : c.in-No.class < 1000000 = subst (λ r. class_of r < 1000000) c.in-No.is c.requires in omega arith
 
-returns : tie.Need-returns
-returns c = (omega arith, (omega arith, refl), sym (ap (λ r. ask_numbers r c.before.before.args.t2) c.enum_told.given.1))
+returns : tie.Need-returns-in-Yes
+returns c = (omega arith, (omega arith, refl), sym (ap (λ r. ask_numbers r c.args.contents) c.in-Yes.is))
 
-returns-2 : tie.Need-returns-2
+returns-2 : tie.Need-returns-in-No
 returns-2 c =
-    let v = c.before.before.before.before.args.t2 in
+    let v = c.args.contents in
     let g = c.before.before.reply.given in
-    let h : 2 + c.at-most-five.result ≤ 7 = omega (arith, c.at-most-five.ensures, min-le_right g.0.1.0 5) in (
+    let h : 2 + c.at_most_five.result ≤ 7 = omega (arith, c.at_most_five.ensures, min-le_right g.0.1.0 5) in (
       h,
-      (h, sym (length-take-le (2 + c.at-most-five.result) (0 ∷ g.0.0 ∷ get_or v 0 0 ∷ get_or v 1 0 ∷ get_or v 2 0 ∷ get_or v 3 0 ∷ get_or v 4 0 ∷ []) h)),
-      five_taken 0 g.0.0 v g.0.1.0 c.at-most-five.result (2 + c.at-most-five.result) (omega (arith, c.before.before.before.before.well-formed)) c.at-most-five.ensures (omega arith) ∙ sym (ap (λ r. ask_numbers r v) g.1),
+      (h, sym (length-take-le (2 + c.at_most_five.result) (0 ∷ g.0.0 ∷ get_or v 0 0 ∷ get_or v 1 0 ∷ get_or v 2 0 ∷ get_or v 3 0 ∷ get_or v 4 0 ∷ []) h)),
+      five_taken 0 g.0.0 v g.0.1.0 c.at_most_five.result (2 + c.at_most_five.result) (omega (arith, c.well_formed)) c.at_most_five.ensures (omega arith) ∙ sym (ap (λ r. ask_numbers r v) g.1),
     )
 
-returns-3 : tie.Need-returns-3
-returns-3 c = (omega arith, (omega arith, refl), sym (ap (λ r. ask_numbers r c.before.before.before.args.t2) c.before.reply2.given.1))
+returns-3 : tie.Need-returns-in-Refused
+returns-3 c = (omega arith, (omega arith, refl), sym (ap (λ r. ask_numbers r c.args.contents) c.in-Refused.is))
 
 pub first_line_spec : {M : Type 1} → statement M
 first_line_spec =

@@ -22,27 +22,27 @@ buffers rows = ask_buffers rows (replicate 5 0)
 room : (rows : List ℕ) → 10784 ≤ length rows → T (rows_room (buffers rows))
 room rows h = le→leb 10784 (length rows) h
 
-first-line-requires : tie.Need-first-line-requires
+first-line-requires : tie.Need-first_line-line-requires
 first-line-requires c κs =
-    let a = c.before.before.before.before.before.before.before.before.before.args in
-    let k = c.before.before.ask_in.ensures in
-    class-printed a.notation a.table.now a.question.now (buffers a.rows.now) (room a.rows.now c.before.before.before.before.before.before.before.before.before.requires.0) _ _ k.0 k.1
+    let a = c.args in
+    let k = c.ask_in-reply.ensures in
+    class-printed a.notation a.table.now a.question.now (buffers a.rows.now) (room a.rows.now c.requires.0) _ _ k.0 k.1
 
-put-line-requires : tie.Need-put-line-requires
+put-line-requires : tie.Need-put_line-requires
 put-line-requires c κs =
-    let f = c.before.before.before.first-line in
+    let f = c.first_line-line in
     let few : length (take f.result.count f.result.values) ≤ 7 = omega (arith, f.ensures.0, f.ensures.1.1) in
-    omega (arith, c.before.before.before.before.before.before.before.before.before.before.before.before.before.requires.1, answer-few (take f.result.count f.result.values) few)
+    omega (arith, c.requires.1, answer-few (take f.result.count f.result.values) few)
 
 returns : tie.Need-returns
 returns c =
-    let a = c.before.before.before.before.before.before.before.before.before.before.before.before.before.before.before.before.args in
-    let k = c.before.before.before.before.before.before.before.before.before.ask_in.ensures in
-    let f = c.before.before.before.before.before.before.first-line in
-    let p = c.before.before.put-line in
-    let lines = asked_line a.notation a.table.now a.question.now (buffers a.rows.now) (room a.rows.now c.before.before.before.before.before.before.before.before.before.before.before.before.before.before.before.before.requires.0) _ _ k.0 k.1 in
+    let a = c.args in
+    let k = c.ask_in-reply.ensures in
+    let f = c.first_line-line in
+    let p = c.put_line in
+    let lines = asked_line a.notation a.table.now a.question.now (buffers a.rows.now) (room a.rows.now c.requires.0) _ _ k.0 k.1 in
     record {
-      put = subst (λ ls. Put (file_bytes Answer ls) 0 p.result a.text.now p.new.0) (ap (λ v. v ∷ []) f.ensures.2 ∙ lines) p.ensures.0;
+      put = subst (λ ls. Put (file_bytes Answer ls) 0 p.result a.text.now p.new.text) (ap (λ v. v ∷ []) f.ensures.2 ∙ lines) p.ensures.0;
       counts = p.ensures.1;
       means = ask_printout a.notation a.table.now a.question.now;
     }

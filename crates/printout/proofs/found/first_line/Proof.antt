@@ -8,17 +8,17 @@ use borrow.Author.Rules.{rules}
 use Rattle.printout.proofs.found.first_line.Statement.{statement}
 use Rattle.printout.proofs.found.first_line.Tie as tie
 
-cast-t8 : tie.Need-overflow_cast-t8
-cast-t8 c = let h : suc c.before.reply2.given.0.0 ≤ 10785 = subst (λ r. moment_count r ≤ 10785) c.before.reply2.given.1 c.before.before.before.requires in omega arith
+cast-t8 : tie.Need-overflow_cast-result
+cast-t8 c = let h : suc c.in-Reached.steps ≤ 10785 = subst (λ r. moment_count r ≤ 10785) c.in-Reached.is c.requires in omega arith
 
-returns : tie.Need-returns
-returns c = (omega arith, (omega arith, refl), sym (ap reach_numbers c.before.reply.given.1))
+returns : tie.Need-returns-in-Never
+returns c = (omega arith, (omega arith, refl), sym (ap reach_numbers c.in-Never.is))
 
-returns-2 : tie.Need-returns-2
-returns-2 c = (omega arith, (omega arith, refl), sym (ap reach_numbers c.before.reply2.given.1))
+returns-2 : tie.Need-returns-in-Reached
+returns-2 c = (omega arith, (omega arith, refl), sym (ap reach_numbers c.in-Reached.is))
 
-returns-3 : tie.Need-returns-3
-returns-3 c = (omega arith, (omega arith, refl), sym (ap reach_numbers c.before.reply3.given.1))
+returns-3 : tie.Need-returns-in-Refused
+returns-3 c = (omega arith, (omega arith, refl), sym (ap reach_numbers c.in-Refused.is))
 
 pub first_line_spec : {M : Type 1} → statement M
 first_line_spec =

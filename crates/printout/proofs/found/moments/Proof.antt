@@ -8,10 +8,10 @@ use Rattle.printout.proofs.found.moments.Statement.{statement}
 use Rattle.printout.proofs.found.moments.Tie as tie
 
 add-result : tie.Need-overflow_add-result
-add-result c = let h : suc c.before.reply.given.0.0 ≤ 10785 = subst (λ r. moment_count r ≤ 10785) c.before.reply.given.1 c.before.before.before.requires in omega arith
+add-result c = let h : suc c.in-Reached.steps ≤ 10785 = subst (λ r. moment_count r ≤ 10785) c.in-Reached.is c.requires in omega arith
 
-returns-2 : tie.Need-returns-2
-returns-2 c = let h : moment_count c.before.before.before.args.reply ≡ suc c.before.reply.given.0.0 = ap moment_count c.before.reply.given.1 in omega arith
+returns-2 : tie.Need-returns-in-Reached
+returns-2 c = let h : moment_count c.args.reply ≡ suc c.in-Reached.steps = ap moment_count c.in-Reached.is in omega arith
 
 pub moments_spec : {M : Type 1} → statement M
 moments_spec =

@@ -17,32 +17,32 @@ use Rattle.printout.proofs.found.put_answer.Tie as tie
 few : (n : ℕ) (values : List ℕ) → n ≤ 4 → n ≡ length (take n values) → length (file_bytes Plain (take n values ∷ [])) ≤ 25
 few n values h e = plain_few (take n values) (omega arith)
 
-put-line-requires : tie.Need-put-line-requires
+put-line-requires : tie.Need-put_line-at-requires
 put-line-requires c κs =
-    let f = c.before.before.before.first-line in
-    omega (arith, c.before.before.before.before.before.before.requires.1, few f.result.count f.result.values f.ensures.0 f.ensures.1.1)
+    let f = c.first_line-first in
+    omega (arith, c.requires.1, few f.result.count f.result.values f.ensures.0 f.ensures.1.1)
 
-put-moments-requires : tie.Need-put-moments-requires
+put-moments-requires : tie.Need-put_moments-requires
 put-moments-requires c κs =
-    let pre = c.before.before.before.before.before.before.before.before.before.before.before.requires in
-    let p = c.before.before.before.before.put-line.ensures.0 in
-    let f = c.before.before.before.before.before.before.before.before.first-line in
+    let pre = c.requires in
+    let p = c.put_line-at.ensures.0 in
+    let f = c.first_line-first in
     let m = c.moments.ensures in
-    (omega (arith, pre.0, pre.1, p.ends, few f.result.count f.result.values f.ensures.0 f.ensures.1.1, m, c.before.before.before.text.given), omega (arith, pre.0, pre.2, m))
+    (omega (arith, pre.0, pre.1, p.ends, few f.result.count f.result.values f.ensures.0 f.ensures.1.1, m, c.text-1.given), omega (arith, pre.0, pre.2, m))
 
 returns : tie.Need-returns
 returns c =
-    let a = c.before.before.before.before.before.before.before.before.before.before.before.before.before.before.args in
-    let pre = c.before.before.before.before.before.before.before.before.before.before.before.before.before.before.requires in
-    let f = c.before.before.before.before.before.before.before.before.before.before.before.first-line in
-    let p = c.before.before.before.before.before.before.before.put-line in
-    let m = c.before.before.before.moments in
-    let q = c.before.before.put-moments in
-    let h : q.result ≤ length q.new.0 =
-    omega (arith, pre.0, pre.1, p.ensures.0.ends, few f.result.count f.result.values f.ensures.0 f.ensures.1.1, m.ensures, c.before.before.before.before.before.before.text.given, c.before.text2.given, q.ensures.0) in (
-      answer-put a.reply a.slots.now (take f.result.count f.result.values) m.result q.result a.text.now q.new.0 f.ensures.2 m.ensures
-          (put_more _ _ 0 p.result q.result a.text.now p.new.0 q.new.0 p.ensures.0 q.ensures.1),
-      (h, sym (length-take-le q.result q.new.0 h)),
+    let a = c.args in
+    let pre = c.requires in
+    let f = c.first_line-first in
+    let p = c.put_line-at in
+    let m = c.moments in
+    let q = c.put_moments in
+    let h : q.result ≤ length q.new.text =
+    omega (arith, pre.0, pre.1, p.ensures.0.ends, few f.result.count f.result.values f.ensures.0 f.ensures.1.1, m.ensures, c.text-1.given, c.text-2-1.given, q.ensures.0) in (
+      answer-put a.reply a.slots.now (take f.result.count f.result.values) m.result q.result a.text.now q.new.text f.ensures.2 m.ensures
+          (put_more _ _ 0 p.result q.result a.text.now p.new.text q.new.text p.ensures.0 q.ensures.1),
+      (h, sym (length-take-le q.result q.new.text h)),
     )
 
 pub put_answer_spec : {M : Type 1} → statement M

@@ -17,19 +17,19 @@ buffers = reach_buffers (replicate 337 0) (replicate 10784 0) (replicate 10784 0
 room : T (search_room buffers)
 room = tt
 
-put-answer-requires : tie.Need-put-answer-requires
+put-answer-requires : tie.Need-put_answer-requires
 put-answer-requires c κs =
-    let a = c.before.before.before.before.before.before.before.before.before.before.before.before.before.before.before.before.args in
-    let k = c.before.before.before.before.before.before.before.reach.ensures in
+    let a = c.args in
+    let k = c.reach-reply.ensures in
     (moments-few a.table.now a.target.now buffers room _ _ k.0 k.6, search rules, search rules)
 
 returns : tie.Need-returns
 returns c =
-    let a = c.before.before.before.before.before.before.before.before.before.before.before.before.before.before.before.before.before.before.before.args in
-    let k = c.before.before.before.before.before.before.before.before.before.before.reach.ensures in
-    let w = c.before.before.put-answer in
+    let a = c.args in
+    let k = c.reach-reply.ensures in
+    let w = c.put_answer in
     record {
-      put = subst (λ ls. Put (reach_bytes ls) 0 w.result a.text.now w.new.0) (found-lines a.table.now a.target.now buffers room _ _ k.0 k.6) w.ensures.0;
+      put = subst (λ ls. Put (reach_bytes ls) 0 w.result a.text.now w.new.text) (found-lines a.table.now a.target.now buffers room _ _ k.0 k.6) w.ensures.0;
       counts = w.ensures.1;
       means = reach_printout a.table.now a.target.now;
     }

@@ -8,8 +8,8 @@ use Rattle.printout.proofs.text.print_line_over.Goals as goal
 pub put_line-end-requires : goal.put_line-end-requires
 put_line-end-requires g c = omega (arith, c.requires, one-length c.args.number)
 
-pub hand_over_line-requires : goal.hand_over_line-requires
-hand_over_line-requires g c =
+pub hand_over-requires : goal.hand_over-requires
+hand_over-requires g c =
     let p = c.put_line-end in
     put_front (file_bytes Plain ((c.args.number ∷ []) ∷ [])) p.result c.args.text.now p.new.text p.ensures.0 p.ensures.1.0
 
