@@ -22,11 +22,10 @@ returns c = (omega arith, (omega arith, refl), sym (ap (λ r. ask_numbers r c.ar
 returns-2 : tie.Need-returns-in-No
 returns-2 c =
     let v = c.args.contents in
-    let g = c.before.before.reply.given in
-    let h : 2 + c.at_most_five.result ≤ 7 = omega (arith, c.at_most_five.ensures, min-le_right g.0.1.0 5) in (
+    let h : 2 + c.at_most_five.result ≤ 7 = omega (arith, c.at_most_five.ensures, min-le_right c.in-No.registers 5) in (
       h,
-      (h, sym (length-take-le (2 + c.at_most_five.result) (0 ∷ g.0.0 ∷ get_or v 0 0 ∷ get_or v 1 0 ∷ get_or v 2 0 ∷ get_or v 3 0 ∷ get_or v 4 0 ∷ []) h)),
-      five_taken 0 g.0.0 v g.0.1.0 c.at_most_five.result (2 + c.at_most_five.result) (omega (arith, c.well_formed)) c.at_most_five.ensures (omega arith) ∙ sym (ap (λ r. ask_numbers r v) g.1),
+      (h, sym (length-take-le (2 + c.at_most_five.result) (0 ∷ c.in-No.class ∷ get_or v 0 0 ∷ get_or v 1 0 ∷ get_or v 2 0 ∷ get_or v 3 0 ∷ get_or v 4 0 ∷ []) h)),
+      five_taken 0 c.in-No.class v c.in-No.registers c.at_most_five.result (2 + c.at_most_five.result) (omega (arith, c.well_formed)) c.at_most_five.ensures (omega arith) ∙ sym (ap (λ r. ask_numbers r v) c.in-No.is),
     )
 
 returns-3 : tie.Need-returns-in-Refused
