@@ -34,12 +34,6 @@ returns-2 c =
     let v = c.loop-i in
     sym (ap value_of (sym v.invariant.2 ∙ digits_high a.args.s.now v.i a.args.end c.loop-i-test.true a.requires.1 v.v c.if-b-gt57.true))
 
-returns-3 : tie.Need-returns-then-v-eq0 invariant-loop decreases-loop
-returns-3 c =
-    let a = c in
-    let v = c.loop-i in
-    sym (ap value_of (sym v.invariant.2 ∙ digits-zero a.args.s.now v.i a.args.end c.loop-i-test.true a.requires.1 v.v c.if-b-lt48.false c.if-b-gt57.false c.if-v-eq0.true))
-
 mul-v : tie.Need-overflow_mul-v invariant-loop decreases-loop
 mul-v c = let v = c.loop-i in omega (arith, room-value v.v _ v.invariant.1)
 
@@ -52,10 +46,11 @@ loop-again c =
     let v = c.loop-i in
     let s = a.args.s.now in
     let d = get_or s v.i 0 - 48 in
-    let digits : d ≤ 9 = omega (arith, c.if-b-gt57.false) in (
+    let digits : d ≤ 9 = omega (arith, c.if-b-gt57.false) in
+    let more : v.v ≡ 0 → ⊥ = λ e. omega arith in (
       omega arith,
       rw c.wide.ensures (room_more v.v d (a.args.end - v.i) _ digits (omega arith) v.invariant.1),
-      rw c.wide.ensures (sym (digits-next s v.i a.args.end c.loop-i-test.true a.requires.1 v.v c.if-b-lt48.false c.if-b-gt57.false c.if-v-eq0.false) ∙ v.invariant.2),
+      rw c.wide.ensures (sym (digits-next s v.i a.args.end c.loop-i-test.true a.requires.1 v.v c.if-b-lt48.false c.if-b-gt57.false more) ∙ v.invariant.2),
     )
 
 returns-4 : tie.Need-returns invariant-loop decreases-loop
@@ -75,7 +70,10 @@ number_from_spec =
     (λ c. omega arith)
     returns
     returns-2
-    returns-3
+    (λ c.
+    let v = c.loop-i in
+    let zero : v.v ≡ 0 = omega arith in
+    sym (ap value_of (sym v.invariant.2 ∙ digits-zero c.args.s.now v.i c.args.end c.loop-i-test.true c.requires.1 v.v c.if-b-lt48.false c.if-b-gt57.false zero)))
     mul-v
     (λ c κs. search rules)
     add-v

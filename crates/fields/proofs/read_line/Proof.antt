@@ -1,5 +1,5 @@
 -- `fields::read_line` meets its contract. Assumes nothing.
-use Prim.Native.Nat.{◌-◌}
+use Prim.Native.Nat.{◌-◌, ◌≤◌}
 use mathlib.Core.Path.{◌≡◌, sym, ap, ◌∙◌}
 use native.Mathlib.Omega.{arith}
 use borrow.Author.Rules.{rules}
@@ -22,19 +22,13 @@ loop-holds c =
     let e = c in
     (taken-first e.args.sheet e.args.s.now e.args.from e.args.end e.requires.1 e.args.row.now e.requires.0 (e.requires.2 ∙ sym (padded-none 6)), ap (λ l. length l) e.requires.2)
 
-returns : tie.Need-returns-then-count-ge6 invariant-loop decreases-loop
-returns c =
-    let e = c in
-    let v = c.loop-at in
-    read_none _ v.row (taken_full e.args.sheet e.args.s.now e.args.from e.args.end e.requires.1 v.row v.at v.count v.invariant.0 c.loop-at-test.true c.if-count-ge6.true)
-
 returns-2 : tie.Need-returns-then-end-at invariant-loop decreases-loop
 returns-2 c =
     let e = c in
     let v = c.loop-at in
     read_none _ v.row
     (taken-short e.args.sheet e.args.s.now e.args.from e.args.end e.requires.1 v.row v.at v.count v.invariant.0 c.loop-at-test.true
-    c.if-count-ge6.false c.width-columns.result c.width-columns.ensures (omega (arith, c.if-end-at.true)))
+    (omega arith) c.width-columns.result c.width-columns.ensures (omega (arith, c.if-end-at.true)))
 
 field-requires : tie.Need-field-requires invariant-loop decreases-loop
 field-requires c κs =
@@ -50,7 +44,7 @@ returns-3 c =
     let w = c.width-columns in
     read_none _ v.row
     (taken_missing e.args.sheet e.args.s.now e.args.from e.args.end e.requires.1 v.row v.at v.count v.invariant.0 c.loop-at-test.true
-    c.if-count-ge6.false w.result w.ensures (omega (arith, c.if-end-at.false))
+    (omega arith) w.result w.ensures (omega (arith, c.if-end-at.false))
     (value_none _ (sym c.in_default.is ∙ c.field.ensures)))
 
 loop-less : tie.Need-loop-at-smaller invariant-loop decreases-loop
@@ -66,7 +60,7 @@ loop-again c =
     let v = c.loop-at in
     let w = c.width-columns in (
       taken_next e.args.sheet e.args.s.now e.args.from e.args.end e.requires.1 v.row v.at v.count v.invariant.0 c.loop-at-test.true
-          c.if-count-ge6.false w.result w.ensures (omega (arith, c.if-end-at.false, v.invariant.0.within)) _
+          (omega arith) w.result w.ensures (omega (arith, c.if-end-at.false, v.invariant.0.within)) _
           (value-some _ _ (sym c.in-Is.is ∙ c.field.ensures)),
       simp length-set v.invariant.1,
     )
@@ -85,7 +79,10 @@ read_line_spec =
     invariant-loop
     decreases-loop
     loop-holds
-    returns
+    (λ c.
+    let v = c.loop-at in
+    let six : 6 ≤ v.count = omega arith in
+    read_none _ v.row (taken_full c.args.sheet c.args.s.now c.args.from c.args.end c.requires.1 v.row v.at v.count v.invariant.0 c.loop-at-test.true six))
     (λ c. omega arith)
     (λ c κs. search rules)
     (λ c. search rules)

@@ -274,14 +274,6 @@ pair_returns_3 t c =
     right-right-stop s a.at a.rows a.t.now a.until (p % 1024) (p / 1024) v (left t c.before.before.before.before.before.before) _ (kind t c.before.before.before.before) c.if-k-eq0.false
     _ c.question-q.new.t (right-stopped (from s (p % 1024 + 1)) s (p % 1024 + 1) (p / 1024) v _ _ c.question-q.ensures c.if-q-lt1024.true) _ c.question-q.new.t (step-stopped _ c.if-q-lt1024.true)
 
-pair_returns_4 : (t : ℕ) → pair-lts.Need-returns-then-byte_at-ne41 (pair_claims t) (pair-at t) pair.Post
-pair_returns_4 t c =
-    let a = c.args in
-    let s = take a.n a.s.now in
-    let p = c.question-p.result in
-    right_open_stop s a.at a.rows a.t.now a.until (p % 1024) (p / 1024) c.question-p.new.t (left t c.before.before.before.before.before.before.before.before) _ (kind t c.before.before.before.before.before.before) c.if-k-eq0.false
-    _ _ c.question-q.new.t (right t c.before.before) (λ h. c.if-byte_at-ne41.true (c.byte_at-2.ensures ∙ h)) _ c.question-q.new.t (step-stopped _ (omega arith))
-
 pair-closed_requires : (t : ℕ) → pair-lts.Need-closed-requires (pair_claims t) (pair-at t) pair.Post
 pair-closed_requires t c κs =
     let l = left t c.before.before.before.before.before.before.before.before.before in
@@ -295,7 +287,7 @@ pair_returns_5 t c =
     let s = take a.n a.s.now in
     let p = c.question-p.result in
     right-pair s a.at a.rows a.t.now a.until (p % 1024) (p / 1024) c.question-p.new.t (left t c.before.before.before.before.before.before.before.before.before.before) _ (kind t c.before.before.before.before.before.before.before.before) c.if-k-eq0.false
-    _ _ c.question-q.new.t (right t c.before.before.before.before) (sym c.byte_at-2.ensures ∙ c.if-byte_at-ne41.false) _ _ c.closed.ensures.1 c.closed.ensures.0
+    _ _ c.question-q.new.t (right t c.before.before.before.before) (omega (arith, c.byte_at-2.ensures)) _ _ c.closed.ensures.1 c.closed.ensures.0
 
 -- A question
 
@@ -358,7 +350,12 @@ pub +atom_pair_question_spec : {M : Type 1} → statement M
     (pair-question_requires_2 t)
     (pair_returns_3 t)
     (λ c κs. search rules)
-    (pair_returns_4 t)
+    (λ c.
+    let a = c.args in
+    let s = take a.n a.s.now in
+    let p = c.question-p.result in
+    right_open_stop s a.at a.rows a.t.now a.until (p % 1024) (p / 1024) c.question-p.new.t (left t c.before.before.before.before.before.before.before.before) _ (kind t c.before.before.before.before.before.before) c.if-k-eq0.false
+    _ _ c.question-q.new.t (right t c.before.before) (λ h. omega (arith, c.byte_at-2.ensures, h)) _ c.question-q.new.t (step-stopped _ (omega arith)))
     (λ c. search rules)
     (pair-closed_requires t)
     (pair_returns_5 t))
