@@ -32,8 +32,9 @@
 #include <stddef.h>
 #include <stdint.h>
 
-/* Bytes of stack that suffice for every call: reaching was seen to take 0.3 MB, a question 4.2 MB, whatever the table; reading a text takes 0.05 MB where its
- * brackets stand 400 deep, before the question is answered (tests/c/measure). */
+/* Bytes of stack that suffice for every call. The buffers have the size that the table needs: reaching was seen to take 0.09 MB for a small table and 0.33 MB
+ * for one at every limit, a question 0.05 MB and 4.2 MB; reading a text takes 0.05 MB where its brackets stand 400 deep, before the question is answered
+ * (tests/c/measure). */
 #define MACEPLATEAU_REACH_STACK ((size_t)2 << 20)
 #define MACEPLATEAU_ASK_STACK ((size_t)5 << 20)
 
