@@ -1,15 +1,15 @@
 -- Rows of a flat list, and what loops write to arrays and buffers, entry by entry and row by row.
 -- Assumes nothing.
-use Prim.Native.Nat.{ℕ, zero, suc, ◌+◌, ◌*◌, ◌-◌, ◌≤◌, ◌<◌}
+use Prim.Native.Nat.{ℕ, zero, suc, ◌+◌, ◌*◌, ◌≤◌, ◌<◌}
 use mathlib.Core.List.{List, [], ◌∷◌, ◌++◌, flat_map, Memᴰ}
 use mathlib.Core.Logic.{by_cases}
 use mathlib.Core.Path.{◌≡◌, refl, sym, ap, ap₂, ◌∙◌}
 use native.Mathlib.Decide.{dec_lt}
-use native.Mathlib.Nat.{sub-zero, zero-sub, suc-sub-suc}
 use native.Mathlib.Numerals.{add-one}
 use native.Mathlib.Omega.{arith}
 use lib.ListN.{length, get_or, take, drop, set, replicate, length-append, drop_of_length-le}
-use lib.Seq.{paste, paste-suc, drop-cons, take-suc, take_at, drop_at, drop-append-add, set_at, append_snoc, length-take-le, take-add, drop-drop, take-length, get_or-take, get_or-drop}
+use lib.Seq.{paste, drop-cons, take-suc, take_at, drop_at, drop-append-add, set_at, append_snoc, length-take-le, take-add, drop-drop, take-length, get_or-take, get_or-drop}
+use Rattle.std.proofs.lemmas.List.{drop-replicate}
 use Rattle.lists.specs.Arrays.{padded, written}
 use Rattle.lists.proofs.Arrays.{padded_zeros, padded-take}
 
@@ -73,13 +73,8 @@ module _ (s buffer : List ℕ) where
 
 -- Arrays of five
 
-drop-replicate : (n m : ℕ) → drop {A = ℕ} n (replicate m 0) ≡ replicate (m - n) 0
-drop-replicate zero m = rw (sub-zero m)
-drop-replicate (suc n) zero = rw (zero-sub (suc n))
-drop-replicate (suc n) (suc m) = drop-replicate n m ∙ rw (suc-sub-suc m n)
-
 overlay_padded : (s : List ℕ) (j : ℕ) → j ≡ length s → j ≤ 5 → overlay s (replicate 5 0) j ≡ padded 5 s
-overlay_padded s j e h = overlay_all s (replicate 5 0) j e ∙ ap (λ r. s ++ r) (drop-replicate (length s) 5) ∙ sym (padded_zeros 5 s (omega arith))
+overlay_padded s j e h = overlay_all s (replicate 5 0) j e ∙ ap (λ r. s ++ r) (drop-replicate (length s) 5 0) ∙ sym (padded_zeros 5 s (omega arith))
 
 pub padded_front : (s : List ℕ) (r : ℕ) → length s ≡ r → r ≤ 5 → take r (padded 5 s) ≡ s
 padded_front s r e h = ap (λ n. take n (padded 5 s)) (sym e) ∙ padded-take 5 s (omega arith)
@@ -100,10 +95,3 @@ copied_next s k i y q h e =
 
 pub copied_ended : (s k : List ℕ) (i : ℕ) → Copied s k i → length s ≤ i → k ≡ padded 5 s
 copied_ended s k i q h = q.done ∙ overlay_padded s i (omega (arith, q.within)) (omega (arith, q.within, q.fits))
-
--- Writing from a place on
-
--- one entry more
-pub paste-next : (buffer : List ℕ) (at : ℕ) (s : List ℕ) (j y : ℕ) → at + j < length buffer → j < length s → get_or s j 0 ≡ y
-    → set (paste buffer at s j) (at + j) y ≡ paste buffer at s (j + 1)
-paste-next buffer at s j y h k e = rw (← e, paste-suc buffer at s j 0 h k, add-one j)

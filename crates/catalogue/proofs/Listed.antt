@@ -1,20 +1,18 @@
 -- Each list of the classes is the one before it, raised: one test, computed for every r ≤ 5 and c ≤ 2.
 -- Assumes nothing.
-use Prim.Native.Nat.{ℕ, zero, suc, ◌+◌, ◌≤◌, ◌<◌, max}
-use mathlib.Core.Bool.{Bool, true, cond, ◌&&◌}
+use Prim.Native.Nat.{ℕ, zero, suc, ◌≤◌, ◌<◌}
+use mathlib.Core.Bool.{Bool, true, ◌&&◌}
 use mathlib.Core.List.{List, [], ◌∷◌, flat_map}
-use mathlib.Core.Path.{◌≡◌, sym, ap, ap₂, ◌∙◌}
-use native.Mathlib.Numerals.{add-one}
+use mathlib.Core.Path.{◌≡◌}
 use native.Mathlib.Omega.{arith}
 use lib.Dec.{T, leb}
-use lib.ListN.{length, get_or, take, drop, replicate}
-use lib.Seq.{drop-cons, get_or-take, length-take-le}
+use lib.ListN.{length, get_or, replicate}
 use Rattle.graphs.specs.Lists.{eq_list, all_of}
 use Rattle.graphs.proofs.Lists.{and_elim, eq_list→eq}
 use Rattle.classes.specs.Classes.{lists}
 use Rattle.lists.specs.Arrays.{padded}
 use Rattle.lists.specs.Filling.{filled}
-use Rattle.catalogue.specs.Listing.{rising_from, raised}
+use Rattle.catalogue.specs.Listing.{raised}
 use Rattle.catalogue.proofs.Tested.{below, below-pair}
 
 -- the list k is followed by the first of ls
@@ -74,11 +72,3 @@ module _ (r c : ℕ) (h : r ≤ 5) (l : c ≤ 2) where
   -- the list after list k
   pub listed_next : (k : ℕ) → suc k < length (lists r c) → raised r c (padded 5 (get_or (lists r c) k [])) ≡ padded 5 (get_or (lists r c) (suc k) [])
   listed_next k m = next-at r c (lists r c) both.1 k m
-
--- one register more is looked at
-pub rising_more : (l : List ℕ) (r x top at i : ℕ) → r ≤ length l → i < r → get_or l i 0 ≡ x
-    → rising_from (max top x) (cond (leb x top) i at) (i + 1) (drop (i + 1) (take r l)) ≡ rising_from top at i (drop i (take r l))
-rising_more l r x top at i k h e =
-    let here : drop i (take r l) ≡ x ∷ drop (i + 1) (take r l) = drop-cons (take r l) i 0 (omega (arith, length-take-le r l k)) ∙ ap₂ (λ y m. y ∷ drop m (take r l)) (get_or-take r l i 0 h ∙ e) (sym (add-one i)) in
-    let next : i + 1 ≡ suc i = add-one i in
-    ap (λ n. rising_from (max top x) (cond (leb x top) i at) n (drop (i + 1) (take r l))) next ∙ sym (ap (rising_from top at i) here)

@@ -1,21 +1,25 @@
 -- The matrix of a valuation, row by row, and the valuation that is made from a matrix.
 -- Assumes nothing.
 use Prim.Native.Nat.{ℕ, zero, suc, ◌+◌, ◌*◌, ◌-◌, ◌≤◌, ◌<◌}
-use mathlib.Core.Bool.{cond, not}
+use mathlib.Core.Bool.{Bool, false, cond, not}
 use mathlib.Core.List.{List, [], ◌∷◌, map, flat_map, Memᴰ}
 use mathlib.Core.Logic.{◌≢◌, by_cases}
 use mathlib.Core.Option.{Option, none, some}
-use mathlib.Core.Path.{◌≡◌, refl, sym, ap, ap₂, ◌∙◌, subst}
+use mathlib.Core.Path.{◌≡◌, refl, sym, ap, ap₂, ◌∙◌, subst, subst⁻¹}
 use native.Mathlib.Decide.{ℕ_discrete, dec_le, dec_lt}
 use native.Mathlib.Nat.{mul-le-mul_right}
 use native.Mathlib.Omega.{arith}
 use borrow.Author.Tests.{eq-eqb, ne_eqb, lt-ltb, le-ltb, le-leb, lt-leb}
-use lib.Dec.{eqb, leb}
-use lib.ListN.{length, get_or, take, drop, length-map}
-use lib.Seq.{take-length, paste, length-take-le, get_or-take, take_all, take_at, ext_get_or}
+use lib.Dec.{T, eqb, leb}
+use lib.ListN.{length, get_or, take, drop, length-map, length-drop}
+use lib.Seq.{take-length, paste, length-take-le, get_or-take, get_or-drop, take_all, take_at, ext_get_or}
+use Rattle.std.specs.Prelude.{Some, None, unwrap_or}
+use Rattle.std.specs.List.{position_or_len}
+use Rattle.std.specs.List as std_list
+use Rattle.std.proofs.lemmas.List.Sums.{prefix_len-le-length, fails_before_first, passes_at_first}
 use Rattle.graphs.specs.Lists.{up_from, eq_list, table}
-use Rattle.graphs.proofs.Lists.{eq_list→eq, get_d_map, table-length, table-get_or, up_from-length, entry-below, First, first-is, up_from-value, up_from_values}
-use Rattle.classes.specs.Classes.{position, labels, lists}
+use Rattle.graphs.proofs.Lists.{eq_list→eq, eq_list_refl, get_d_map, table-length, table-get_or, up_from-length, entry-below, First, first-is, up_from-value, up_from_values}
+use Rattle.classes.specs.Classes.{position, labels, lists, index}
 use Rattle.classes.specs.Contents.{Legal}
 use Rattle.classes.specs.Matrix.{cell, matrix, class_matrix}
 use Rattle.classes.specs.MatrixClasses.{class_of_matrix}
@@ -24,10 +28,10 @@ use Rattle.classes.proofs.Labels.{position-cons-same, position-cons_other, posit
 use Rattle.classes.proofs.Legal.{labels_length, labels-legal, up_from-distinct, up_from-position}
 use Rattle.classes.proofs.Matrices.{matrix-labels, class_of-matrix-is, cell_other}
 use Rattle.lists.specs.Arrays.{padded, written}
-use Rattle.lists.proofs.Searches.{first_agree}
+use Rattle.lists.proofs.Searches.{first_agree, first_range, first_unique}
 use Rattle.labelling.proofs.Noted.{marks-take}
 use Rattle.labelling.proofs.NotedTurns.{is_at, position_first}
-use Rattle.catalogue.specs.MatrixCells.{is_equal, first_equal, register_of, valuation_of}
+use Rattle.catalogue.specs.MatrixCells.{found, is_equal, first_equal, register_of, valuation_of}
 use Rattle.catalogue.proofs.Copying.{flat_row, overlay, overlay_row, padded_front}
 use Rattle.classes.proofs.GivenBack.{legal-low}
 
@@ -80,12 +84,41 @@ module _ (cs : List ℕ) where
         (take_all r (map (cell cs (get_or v i 0)) v) (omega (arith, length-map v (cell cs (get_or v i 0)))) ∙ sym row)
         ∙ ap (overlay (matrix cs v) buffer) next
 
--- an entry of a row that is made from the one on the diagonal
-pub cells_entry : (x own r : ℕ) (u : List ℕ) (j : ℕ) → j < r → r ≤ length u
-    → get_or (map (λ y. cond (eqb x y) own 0) (take r u)) j 0 ≡ cond (eqb x (get_or u j 0)) own 0
-cells_entry x own r u j h l =
-    get_d_map (λ y. cond (eqb x y) own 0) (take r u) j 0 0 (omega (arith, length-take-le r u l))
-    ∙ ap (λ y. cond (eqb x y) own 0) (get_or-take r u j 0 h)
+-- the first entry that is not 0, as `position` finds it
+module _ (m : List ℕ) (at n : ℕ) (h : at + n ≤ length m) where
+  not_zero : ℕ → Bool
+  not_zero x = not (eqb x 0)
+
+  part : List ℕ
+  part = take n (drop at m)
+
+  part-length : length part ≡ n
+  unfolding part
+  part-length = length-take-le n (drop at m) (omega (arith, length-drop at m))
+
+  part-entry : (j : ℕ) → j < n → not_zero (get_or part j 0) ≡ is_equal m at j
+  unfolding part not_zero
+  part-entry j l = ap (λ x. not (eqb x 0)) (get_or-take n (drop at m) j 0 l ∙ get_or-drop at m j 0)
+
+  first-part : first_equal m at n ≡ position_or_len not_zero part
+  first-part =
+      let len = part-length in
+      let few = prefix_len-le-length (λ x. not (not_zero x)) part in
+      first_unique (is_equal m at) 0 n (position_or_len not_zero part) (omega arith) (omega arith)
+      (λ j k l. sym (part-entry j (omega arith)) ∙ fails_before_first not_zero part j 0 l)
+      (λ l. subst⁻¹ T (sym (part-entry (position_or_len not_zero part) (omega arith)) ∙ passes_at_first not_zero part 0 (omega arith)) tt)
+
+  pub first-position : unwrap_or (std_list.position (λ x. not (eqb x 0)) (take n (drop at m))) n ≡ first_equal m at n
+  unfolding part not_zero
+  first-position =
+      let len = part-length in
+      let few = prefix_len-le-length (λ x. not (not_zero x)) part in
+      by_cases (dec_lt (position_or_len not_zero part) (length part))
+      (λ l. ap (λ b. unwrap_or (cond b (Some (position_or_len not_zero part)) None) n) (lt-ltb _ _ l) ∙ sym first-part)
+      (λ l. ap (λ b. unwrap_or (cond b (Some (position_or_len not_zero part)) None) n) (le-ltb _ _ (omega arith)) ∙ omega (arith, first-part))
+
+pub first_equal-within : (m : List ℕ) (at n : ℕ) → first_equal m at n ≤ n
+first_equal-within m at n = let h = first_range (is_equal m at) 0 n in omega arith
 
 -- row i fits
 pub row_fits : (r i : ℕ) → i < r → i * r + r ≤ r * r
@@ -213,14 +246,24 @@ class_missing r c m small n = step (class_of_matrix r c m) (first-is (λ k. eq_l
         absurd (n (subst (λ w. matrix (up_from 1 c) (valuation_of w m) ≡ m) len
         (subst (λ l. matrix (up_from 1 c) (valuation_of (length k) l) ≡ l) own (valuation-matrix c k small legal))))
 
--- the valuation at the front of an array, and its matrix at the front of a buffer
-module _ (r c : ℕ) (five : r ≤ 5) (m u : List ℕ) (e : u ≡ padded 5 (valuation_of r m)) where
-  pub valuation_front : take r u ≡ valuation_of r m
+-- the valuation at the front of an array, its matrix at the front of a buffer, and whether that is the matrix
+module _ (r c : ℕ) (five : r ≤ 5) (two : c ≤ 2) (m u : List ℕ) (e : u ≡ padded 5 (valuation_of r m)) where
+  valuation_front : take r u ≡ valuation_of r m
   valuation_front = ap (take r) e ∙ padded_front (valuation_of r m) r (valuation-length r m) five
 
-  pub matrix_front : (own buffer : List ℕ) → c ≤ 2 → length m ≡ r * r → own ≡ written (matrix (take c (1 ∷ 2 ∷ [])) (take r u)) buffer
-      → take (length m) own ≡ matrix (up_from 1 c) (valuation_of r m)
-  matrix_front own buffer small len w =
-      let full : length (matrix (up_from 1 c) (valuation_of r m)) ≡ length m =
-      matrix-length (up_from 1 c) (valuation_of r m) ∙ ap₂ ◌*◌ (valuation-length r m) (valuation-length r m) ∙ sym len in
-      rw (w, marks-take c small, valuation_front) (take_at (matrix (up_from 1 c) (valuation_of r m)) _ (length m) full)
+  module _ (own buffer : List ℕ) (len : length m ≡ r * r) (w : own ≡ written (matrix (take c (1 ∷ 2 ∷ [])) (take r u)) buffer) where
+    matrix_front : take (length m) own ≡ matrix (up_from 1 c) (valuation_of r m)
+    matrix_front =
+        let full : length (matrix (up_from 1 c) (valuation_of r m)) ≡ length m =
+        matrix-length (up_from 1 c) (valuation_of r m) ∙ ap₂ ◌*◌ (valuation-length r m) (valuation-length r m) ∙ sym len in
+        rw (w, marks-take c two, valuation_front) (take_at (matrix (up_from 1 c) (valuation_of r m)) _ (length m) full)
+
+    pub found-same : T (eq_list (take (length m) own) m) → (k : ℕ) → k ≡ index (lists r c) (labels (take c (1 ∷ 2 ∷ [])) (take r u))
+        → Some k ≡ found r c (class_of_matrix r c m)
+    found-same t k h =
+        ap Some (h ∙ rw (marks-take c two, valuation_front))
+        ∙ sym (ap (found r c) (class-found r c m (valuation_of r m) (valuation-length r m) (eq_list→eq _ m (rw matrix_front at t))))
+
+    pub found_other : eq_list (take (length m) own) m ≡ false → None ≡ found r c (class_of_matrix r c m)
+    found_other h =
+        sym (ap (found r c) (class_missing r c m two (λ q. subst T h (subst (λ l. T (eq_list l m)) (sym (matrix_front ∙ q)) (eq_list_refl m)))))

@@ -1,17 +1,15 @@
 -- The class of a matrix: the answer, and a valuation that has the matrix where any has it.
 -- Assumes nothing.
-use Rattle.std.specs.Prelude.{ℕ, ◌+◌, ◌*◌, ◌-◌, Bool, cond, not, List, map, eqb, leb, get_or}
-use Rattle.std.proofs.Math.Option.{Option, none, some}
+use Rattle.std.specs.Prelude.{ℕ, ◌+◌, ◌*◌, ◌-◌, Bool, cond, not, List, map, eqb, leb, get_or, Option, Some, None}
+use Rattle.std.proofs.Math.Option as math
 use Rattle.lists.specs.Searches.{first_from}
 use Rattle.graphs.specs.Lists.{up_from}
 use Rattle.classes.specs.Classes.{lists, index}
-use Rattle.catalogue.specs.declared.Found.{Found}
-use Rattle.catalogue.specs.declared.Found.TheVariants.{Class, NoClass}
 
 -- the class number of the list that has the matrix, or that no contents have it
-abbrev pub found : ℕ → ℕ → Option (List ℕ) → Found
-found r c none = NoClass
-found r c (some k) = Class (index (lists r c) k)
+abbrev pub found : ℕ → ℕ → math.Option (List ℕ) → Option ℕ
+found r c math.none = None
+found r c (math.some k) = Some (index (lists r c) k)
 
 -- entry j, counted from place `at`, is not 0
 abbrev pub is_equal : List ℕ → ℕ → ℕ → Bool

@@ -14,10 +14,3 @@ pub use matrices::{class_matrix, class_of_matrix, matrix_of};
 pub use numbers::{class_count, class_number, class_of};
 pub use scan::contents_of;
 pub use serving::{class_labels, fill_rows};
-
-// The class that has a matrix, if any has it.
-#[derive(Clone, Copy)]
-pub enum Found {
-    Class(usize),
-    NoClass,
-}

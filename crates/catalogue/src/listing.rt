@@ -1,6 +1,5 @@
 // The labels of all classes, one list after another in dictionary order: each is made from the one before.
-ghost use Rattle.std.specs.Prelude.{cond, ◌≡◌, ◌+◌, ◌*◌, ◌-◌, ◌<◌, ◌≤◌, max, T, leb, length, take};
-ghost use Rattle.std.proofs.Math.Seq.{paste};
+ghost use Rattle.std.specs.Prelude.{◌≡◌, ◌*◌, ◌-◌, ◌<◌, ◌≤◌, T, leb, length, take};
 ghost use Rattle.graphs.specs.Lists.{all_of};
 ghost use Rattle.classes.specs.Classes.{lists};
 ghost use Rattle.lists.specs.Arrays.{written};
@@ -10,30 +9,6 @@ ghost use Rattle.catalogue.specs.Listing.{rising_from, raised};
 
 use crate::numbers::class_count;
 
-// Five labels, from place `at` on.
-fn store(flat: &mut [u8], at: usize, labels: [u8; 5])
-    requires { at + 5 ≤ length flat.old }
-    ensures { flat.new ≡ paste flat.old at labels 5 }
-{
-    let mut j = 0;
-    while j < 5 {
-        flat[at + j] = labels[j];
-        j += 1;
-    }
-}
-
-fn pick(c: bool, a: usize, b: usize) -> usize
-    ensures { result ≡ cond c a b }
-{
-    if c { a } else { b }
-}
-
-fn larger_label(a: u8, b: u8) -> u8
-    ensures { result ≡ max a b }
-{
-    if a < b { b } else { a }
-}
-
 // The last register whose label may go up: it is a constant's or one of those before it.
 fn rising(list: [u8; 5], r: usize, c: u8) -> usize
     requires { r ≤ 5 }
@@ -41,12 +16,11 @@ fn rising(list: [u8; 5], r: usize, c: u8) -> usize
 {
     let mut top = c;
     let mut at = 0;
-    let mut i = 0;
-    while i < r {
-        let x = list[i];
-        at = pick(x <= top, i, at);
-        top = larger_label(top, x);
-        i += 1;
+    for (i, x) in list[..r].iter().enumerate() {
+        if *x <= top {
+            at = i;
+        }
+        top = top.max(*x);
     }
     at
 }
@@ -57,10 +31,8 @@ fn ones(list: [u8; 5], from: usize, r: usize) -> [u8; 5]
     ensures { result ≡ filled list from (λ i. 1) (r - from) }
 {
     let mut next = list;
-    let mut i = from;
-    while i < r {
+    for i in from..r {
         next[i] = 1;
-        i += 1;
     }
     next
 }
@@ -72,7 +44,7 @@ fn raise(list: [u8; 5], r: usize, c: u8) -> [u8; 5]
 {
     let at = rising(list, r, c);
     let mut next = list;
-    next[at] = list[at] + 1;
+    next[at] += 1;
     ones(next, at + 1, r)
 }
 
@@ -81,13 +53,9 @@ pub fn fill_labels(r: usize, c: usize, flat: &mut [u8])
     requires { (r ≤ 5) × (c ≤ 2) × (5 * length (lists r c) ≤ length flat.old) }
     ensures { flat.new ≡ written (label_rows r c) flat.old }
 {
-    let count = class_count(r, c);
     let mut labels = ones([0u8; 5], 0, r);
-    let mut k = 0;
-    while k < count {
-        store(flat, k * 5, labels);
-        let next = raise(labels, r, c as u8);
-        labels = next;
-        k += 1;
+    for k in 0..class_count(r, c) {
+        flat[k * 5..k * 5 + 5].copy_from_slice(&labels);
+        labels = raise(labels, r, c as u8);
     }
 }

@@ -1,5 +1,5 @@
 // The number of classes, and the number of a class by a few products.
-ghost use Rattle.std.specs.Prelude.{◌≡◌, ◌<◌, ◌≤◌, max, length, take};
+ghost use Rattle.std.specs.Prelude.{◌≡◌, ◌<◌, ◌≤◌, length, take};
 ghost use Rattle.classes.specs.Classes.{labels, lists, index};
 ghost use Rattle.classes.specs.Contents.{Legal};
 ghost use Rattle.catalogue.specs.Numbers.{list_count};
@@ -27,24 +27,6 @@ pub fn class_count(r: usize, c: usize) -> usize
     count_of(r, c) as usize
 }
 
-fn larger(a: usize, b: usize) -> usize
-    ensures { result ≡ max a b }
-{
-    if a < b { b } else { a }
-}
-
-fn wide8(n: u8) -> usize
-    ensures { result ≡ n }
-{
-    n as usize
-}
-
-pub fn wide16(n: u16) -> usize
-    ensures { result ≡ n }
-{
-    n as usize
-}
-
 // The number of a class, from its labels.
 pub fn class_number(r: usize, c: usize, labels: [u8; 5]) -> usize
     requires { (r ≤ 5) × (c ≤ 2) × Legal c (take r labels) }
@@ -52,13 +34,11 @@ pub fn class_number(r: usize, c: usize, labels: [u8; 5]) -> usize
 {
     let mut b = c;
     let mut sum = 0;
-    let mut i = 0;
-    while i < r {
-        let x = wide8(labels[i]);
-        let each = wide16(count_of(r - (i + 1), b));
+    for (i, x) in labels[..r].iter().enumerate() {
+        let x = *x as usize;
+        let each = count_of(r - (i + 1), b) as usize;
         sum += (x - 1) * each;
-        b = larger(b, x);
-        i += 1;
+        b = b.max(x);
     }
     sum
 }
@@ -68,6 +48,5 @@ pub fn class_of(constants: [u32; 2], c: usize, contents: [u32; 5], r: usize) -> 
     requires { (c ≤ 2) × (r ≤ 5) }
     ensures { result ≡ index (lists r c) (labels (take c constants) (take r contents)) }
 {
-    let list = labels_of(constants, c, contents, r);
-    class_number(r, c, list)
+    class_number(r, c, labels_of(constants, c, contents, r))
 }

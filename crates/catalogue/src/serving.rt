@@ -6,16 +6,11 @@ ghost use Rattle.lists.specs.Filling.{Begins};
 ghost use Rattle.catalogue.specs.FlatCatalogue.{catalogue, row};
 ghost use Rattle.catalogue.specs.Serving.{serves_label, serves, narrow, serving_rows};
 
-use crate::numbers::wide16;
-
 // May a label stand in a register, which is there or not, of a table with c constants?
 fn label_serves(there: bool, c: u8, x: u8) -> bool
     ensures { result ≡ serves_label there c x }
 {
-    if there {
-        return (x <= c) | (2 < x);
-    }
-    x == 1
+    if there { (x <= c) | (2 < x) } else { x == 1 }
 }
 
 // Does row n of the table serve r registers and c constants?
@@ -23,12 +18,10 @@ fn row_serves(table: &[u8], n: usize, r: usize, c: u8) -> bool
     requires { (n < 674) × (n * 5 + 5 ≤ length table.now) }
     ensures { result ≡ serves r c (row table.now n) }
 {
-    let mut i = 0;
-    while i < 5 {
+    for i in 0..5 {
         if !label_serves(i < r, c, table[n * 5 + i]) {
             return false;
         }
-        i += 1;
     }
     true
 }
@@ -39,13 +32,11 @@ pub fn fill_rows(table: &[u8], r: usize, c: usize, rows: &mut [u16])
     ensures { rows.new ≡ written (serving_rows r c) rows.old }
 {
     let mut count = 0;
-    let mut n: usize = 0;
-    while n < 674 {
+    for n in 0..674 {
         if row_serves(table, n, r, c as u8) {
             rows[count] = n as u16;
             count += 1;
         }
-        n += 1;
     }
 }
 
@@ -54,14 +45,7 @@ fn narrowed(c: u8, x: u8) -> u8
     requires { c ≤ 2 }
     ensures { result ≡ narrow c x }
 {
-    if x <= c {
-        return x;
-    }
-    let less = 2 - c;
-    if x <= less {
-        return 0;
-    }
-    x - less
+    if x <= c { x } else { x.saturating_sub(2 - c) }
 }
 
 // The labels of the class with this number; zeros after them.
@@ -69,12 +53,10 @@ pub fn class_labels(table: &[u8], rows: &[u16], r: usize, c: usize, number: usiz
     requires { (table.now ≡ catalogue) × (r ≤ 5) × (c ≤ 2) × Begins (serving_rows r c) rows.now × (number < length (lists r c)) }
     ensures { result ≡ padded 5 (get_or (lists r c) number []) }
 {
-    let n = wide16(rows[number]);
+    let at = rows[number] as usize * 5;
     let mut labels = [0u8; 5];
-    let mut i = 0;
-    while i < r {
-        labels[i] = narrowed(c as u8, table[n * 5 + i]);
-        i += 1;
+    for (i, x) in table[at..at + r].iter().enumerate() {
+        labels[i] = narrowed(c as u8, *x);
     }
     labels
 }

@@ -3,7 +3,6 @@
 use Prim.Native.Nat.{ℕ, ◌≤◌, ◌<◌}
 use mathlib.Core.List.{List}
 use mathlib.Core.Path.{◌≡◌, sym, ap, ◌∙◌}
-use native.Mathlib.Omega.{arith}
 use borrow.Author.Tests.{le-leb, lt-leb}
 use lib.Dec.{T}
 use lib.ListN.{length}
@@ -16,9 +15,7 @@ use Rattle.forms.specs.FormAutomaton.{automaton_of}
 use Rattle.forms.specs.QuestionForm.{rows_of}
 use Rattle.questions.specs.Question.{Rows}
 use Rattle.questions.specs.QuestionReply.{reply_of, form_of}
-use Rattle.questions.specs.declared.Reply.{Reply}
-use Rattle.questions.specs.declared.Reply.TheVariants.{Accepted, Refused}
-use Rattle.questions.proofs.QuestionOutcomes.{accepted-rows}
+use Rattle.std.proofs.Common.{Ok, Err}
 use Rattle.opening.specs.Opening.{open_table}
 use Rattle.claims.specs.Files.{with_question, question_to, question_files, AskBuffers, rows_room, ask_files}
 use Rattle.claims.specs.declared.Notation.{Notation}
@@ -40,17 +37,21 @@ module _ (w : Notation) (s q t : List ℕ) (e : open_table s ≡ accepted t) whe
   abbrev outcome : Judged Rows
   outcome = question_to w (automaton_of t) q
 
-  pub told-rows : (r : Reply) (u v : List ℕ) (n : ℕ) → r ≡ reply_of outcome → u ≡ form_of outcome v → r ≡ Accepted n → Questioned w s q t u n
-  told-rows r u v n d f a =
-      let o : outcome ≡ accepted (rows u n) = accepted-rows outcome v n (sym d ∙ a) ∙ ap (λ x. accepted (rows x n)) (sym f) in
+  pub told-rows : (u v : List ℕ) (n : ℕ) → Ok n ≡ reply_of outcome → u ≡ form_of outcome v → Questioned w s q t u n
+  told-rows u v n d f =
+      let o : outcome ≡ accepted (rows u n) = told-form outcome d ∙ ap (λ x. accepted (rows x n)) (sym f) in
       let g = read-form w (automaton_of t) q (rows u n) o in
       record { files = question_files_lem w s q t (rows u n) e o; long = g.long; most = g.most; fits = g.fits }
-
-  pub told-question-refused : (r : Reply) (n : Refusal) → r ≡ reply_of outcome → r ≡ Refused n → question_files w s q ≡ refused n
-  told-question-refused r n d a = ap (λ o. o then question-after w q) e ∙ go outcome (sym d ∙ a)
     where
-      go : (o : Judged Rows) → reply_of o ≡ Refused n → (o then (λ r. accepted (with_question t r))) ≡ refused n
-      go (accepted x) b = let z : ◌≡◌ {A = ℕ} 0 1 = cc in absurd (omega arith)
+      told-form : (o : Judged Rows) → Ok n ≡ reply_of o → o ≡ accepted (rows (form_of o v) n)
+      told-form (accepted x) b = let c : x.count ≡ n = cc in ap (λ k. accepted (rows x.form k)) c
+      told-form (refused x) b = absurd cc
+
+  pub told-question-refused : (n : Refusal) → Err n ≡ reply_of outcome → question_files w s q ≡ refused n
+  told-question-refused n d = ap (λ o. o then question-after w q) e ∙ go outcome d
+    where
+      go : (o : Judged Rows) → Err n ≡ reply_of o → (o then (λ r. accepted (with_question t r))) ≡ refused n
+      go (accepted x) b = absurd cc
       go (refused x) b = let c : x ≡ n = cc in ap refused c
 
 pub question-table-refused : (w : Notation) (s q : List ℕ) (n : Refusal) → open_table s ≡ refused n → question_files w s q ≡ refused n

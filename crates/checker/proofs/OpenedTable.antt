@@ -10,9 +10,8 @@ use Rattle.forms.specs.FormAutomaton.{automaton_of}
 use Rattle.refusals.specs.declared.Refusal.{Refusal}
 use Rattle.refusals.specs.Judged.{Judged}
 use Rattle.refusals.specs.Judged.Judged.{accepted, refused}
+use Rattle.std.proofs.Common.{Ok, Err}
 use Rattle.reader.specs.TableReply.{reply_of, Holds}
-use Rattle.reader.specs.declared.Reply.{Reply}
-use Rattle.reader.specs.declared.Reply.TheVariants.{Accepted, Refused}
 use Rattle.forms.specs.Readable.{Readable}
 use Rattle.catalogue.specs.Serving.{label_rows}
 use Rattle.catalogue.proofs.LabelRows.{label_rows-length}
@@ -40,10 +39,10 @@ labels-long t r =
     let z : length (replicate {A = ℕ} 3370 0) ≡ 3370 = length-replicate {0} {A = ℕ} 3370 0 in
     written-length (label_rows q k) (replicate 3370 0) (omega (arith, label_rows-length q k (counts-few t r).0, classes-few t r, z)) ∙ z
 
-pub told_opened : (s t cat : List ℕ) (q : Reply) → q ≡ reply_of (open_table s) → Holds (open_table s) t → Labelled (open_table s) cat → q ≡ Accepted → Opened s t cat
-told_opened s t cat q e f l a = go (open_table s) refl (sym e ∙ a) f l
+pub told_opened : (s t cat : List ℕ) → Ok tt ≡ reply_of (open_table s) → Holds (open_table s) t → Labelled (open_table s) cat → Opened s t cat
+told_opened s t cat e f l = go (open_table s) refl e f l
   where
-    go : (o : Judged (List ℕ)) → open_table s ≡ o → reply_of o ≡ Accepted → Holds o t → Labelled o cat → Opened s t cat
+    go : (o : Judged (List ℕ)) → open_table s ≡ o → Ok tt ≡ reply_of o → Holds o t → Labelled o cat → Opened s t cat
     go (accepted u) d a f l =
         let outcome : open_table s ≡ accepted t = d ∙ ap accepted (sym f) in
         let readable : Readable t = (opened_readable s t outcome).0 in
@@ -56,12 +55,14 @@ told_opened s t cat q e f l a = go (open_table s) refl (sym e ∙ a) f l
           held = held;
           long = ap length same ∙ labels-long t readable;
         }
-    go (refused r) d a f l = let z : ◌≡◌ {A = ℕ} 0 1 = cc in absurd (omega arith)
+    go (refused r) d a f l = absurd cc
 
 -- a caller that is told a refusal has that of what was read
-pub told-refused : (o : Judged (List ℕ)) (q : Reply) (r : Refusal) → q ≡ reply_of o → q ≡ Refused r → o ≡ refused r
-told-refused o q r e a = go o (sym e ∙ a)
-  where
-    go : (o : Judged (List ℕ)) → reply_of o ≡ Refused r → o ≡ refused r
-    go (accepted u) b = let z : ◌≡◌ {A = ℕ} 0 1 = cc in absurd (omega arith)
-    go (refused m) b = let p : m ≡ r = cc in ap refused p
+pub told-refused : (o : Judged (List ℕ)) (r : Refusal) → Err r ≡ reply_of o → o ≡ refused r
+told-refused (accepted u) r e = absurd cc
+told-refused (refused m) r e = let p : m ≡ r = cc in ap refused p
+
+-- one that is told none has the form that was read
+pub told_form : (o : Judged (List ℕ)) (u : List ℕ) → Ok tt ≡ reply_of o → Holds o u → o ≡ accepted u
+told_form (accepted t) u e f = ap accepted (sym f)
+told_form (refused m) u e f = absurd cc

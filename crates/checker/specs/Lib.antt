@@ -1,2 +1,2 @@
 -- What contracts within the checker cite; the public calls cite crate claims.
-pub mod OpenedValue
+pub mod Codes

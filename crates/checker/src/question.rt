@@ -1,5 +1,5 @@
 // The calls on a table and a question, in either notation: its rows over all configurations, and whether it holds at every permitted start.
-ghost use Rattle.std.specs.Prelude.{List, ◌≡◌, ℕ, ◌≤◌, T, length};
+ghost use Rattle.std.specs.Prelude.{List, Ok, ◌≡◌, ℕ, ◌≤◌, T, length};
 ghost use Rattle.std.proofs.Math.Option.{Option};
 ghost use Rattle.automata.specs.Automaton.{Automaton};
 ghost use Rattle.automata.specs.Questions.{Row, question as asked, row_formulas};
@@ -36,19 +36,18 @@ fn answer(
     ensures { let a : Automaton = automaton_of form.now in
         let rs : List Row = rows_of question.now count in
         let k : Option ℕ = failing a (asked rs) in
-        (result ≡ asked_reply a k)
+        (Ok result ≡ asked_reply a k)
         × (rows.new ≡ shown a (row_formulas rs) rows.old)
         × (contents.new ≡ asked_contents a k contents.old) }
 {
     let n = classes_in(form);
     sets::clear(rows, 10784);
-    let answer = answers::ask_with(form, cat, n, question, count, rows);
-    match answer {
-        answers::Answer::Yes => Asking::Yes,
-        answers::Answer::No(class) => {
+    match answers::ask_with(form, cat, n, question, count, rows) {
+        None => Asking::Yes,
+        Some(class) => {
             *contents = concretization::class_contents(form, cat, n, class);
             Asking::No {
-                class: class,
+                class,
                 registers: forms::registers(form),
             }
         }
@@ -56,12 +55,13 @@ fn answer(
 }
 
 // Reads a question in this notation to an opened table; a refusal leaves the rows as they are.
+// Stays: a match on the notation, which the calls pass on; a closure for the reader would be made at one place, and its contract would repeat that of both readers.
 pub(crate) fn read_rows(
     form: &[u32],
     notation: Notation,
     question: &[u8],
     rows: &mut [u32; 96],
-) -> questions::Reply
+) -> Result<usize, Refusal>
     requires { Readable form.now }
     ensures { let a : Automaton = automaton_of form.now in
         (result ≡ reply_of (question_to notation a question.now))
@@ -83,38 +83,29 @@ pub(crate) fn ask_in(
     question: &[u8],
     rows: &mut [u32],
     contents: &mut [u32; 5],
-) -> Asking
+) -> Result<Asking, Refusal>
     ensures { let before : AskBuffers = ask_buffers rows.old contents.old in
         let after : AskBuffers = ask_buffers rows.new contents.new in
         AskPromise notation table.now question.now result before after }
 {
     if rows.len() < 10784 {
-        return Asking::Refused(Refusal {
-            number: 9,
-            file: 0,
-            line: 0,
-        });
+        return Err(Refusal::of_call(9));
     }
     let mut form = [0u32; forms::LENGTH];
     let mut labels = [0u8; 3370];
-    let opened = opening::open_table(table, &mut form, &mut labels);
-    match opened {
-        reader::Reply::Refused(r) => Asking::Refused(r),
-        reader::Reply::Accepted => {
-            let mut lines = [0u32; 96];
-            let reply = read_rows(&form, notation, question, &mut lines);
-            match reply {
-                questions::Reply::Refused(r) => Asking::Refused(r),
-                questions::Reply::Accepted(count) => {
-                    answer(&form, &labels, &lines, count, rows, contents)
-                }
-            }
-        }
-    }
+    opening::open_table(table, &mut form, &mut labels)?;
+    let mut lines = [0u32; 96];
+    let count = read_rows(&form, notation, question, &mut lines)?;
+    Ok(answer(&form, &labels, &lines, count, rows, contents))
 }
 
 // The call on a question that is a file of rows.
-pub fn ask(table: &[u8], question: &[u8], rows: &mut [u32], contents: &mut [u32; 5]) -> Asking
+pub fn ask(
+    table: &[u8],
+    question: &[u8],
+    rows: &mut [u32],
+    contents: &mut [u32; 5],
+) -> Result<Asking, Refusal>
     ensures { let before : AskBuffers = ask_buffers rows.old contents.old in
         let after : AskBuffers = ask_buffers rows.new contents.new in
         AskPromise Rows table.now question.now result before after }
@@ -123,7 +114,12 @@ pub fn ask(table: &[u8], question: &[u8], rows: &mut [u32], contents: &mut [u32;
 }
 
 // The call on a question that is a line of text.
-pub fn ask_text(table: &[u8], text: &[u8], rows: &mut [u32], contents: &mut [u32; 5]) -> Asking
+pub fn ask_text(
+    table: &[u8],
+    text: &[u8],
+    rows: &mut [u32],
+    contents: &mut [u32; 5],
+) -> Result<Asking, Refusal>
     ensures { let before : AskBuffers = ask_buffers rows.old contents.old in
         let after : AskBuffers = ask_buffers rows.new contents.new in
         AskPromise Text table.now text.now result before after }

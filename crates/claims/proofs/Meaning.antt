@@ -4,6 +4,7 @@ use Prim.Native.Nat.{ℕ, ◌≤◌}
 use mathlib.Core.List.{List}
 use mathlib.Core.Logic.{◌↔◌, ◌⊎◌, inl, inr}
 use mathlib.Core.Option as option
+use Rattle.std.proofs.Common.{Result, Ok, Err}
 use mathlib.Core.Path.{◌≡◌, refl, sym, ap, ◌∙◌, subst, subst⁻¹}
 use native.Mathlib.Omega.{arith}
 use lib.Dec.{T}
@@ -31,10 +32,10 @@ use Rattle.claims.specs.AnswerNumbers.{ask_numbers}
 use Rattle.claims.specs.Demand.{TargetAnswer, ReachClaim, QuestionSaid, QuestionRefused, QuestionAnswer, AskClaim, Demand3, ReachMeans, AskMeans}
 use Rattle.claims.specs.Editor.{reach_code, ask_code, ReachCodeMeans, AskCodeMeans}
 use Rattle.claims.specs.declared.Notation.{Notation}
-use Rattle.claims.specs.declared.Reaching.{Reaching}
-use Rattle.claims.specs.declared.Reaching.TheVariants.{Never, Reached, Refused}
+use Rattle.witness.specs.declared.Answer.{Answer}
+use Rattle.witness.specs.declared.Answer.TheVariants.{Never, Reached}
 use Rattle.claims.specs.declared.Asking.{Asking}
-use Rattle.claims.specs.declared.Asking.TheVariants.{Yes, No, Refused as not_asked}
+use Rattle.claims.specs.declared.Asking.TheVariants.{Yes, No}
 use Rattle.claims.proofs.Rooms.{ample, ample_room, wide, wide_room}
 use Rattle.claims.proofs.Notations.{said_read, read-said, refused-said, read-form}
 use Rattle.claims.proofs.Claims.{target_right, question-right, question-told}
@@ -66,12 +67,12 @@ read_same : (w : Notation) (s q : List ℕ) (f : WithQuestion) (t : List ℕ) (r
 read_same w s q f t r e o p = let d : accepted (with_question t r) ≡ accepted f = sym (question_files_lem w s q t r o p) ∙ e in cc
 
 -- a refusal is replied only where the files are turned back
-pub ask_refused : (j : Judged WithQuestion) (n : Refusal) → ask_reply j ≡ not_asked n → j ≡ refused n
+pub ask_refused : (j : Judged WithQuestion) (n : Refusal) → ask_reply j ≡ Err n → j ≡ refused n
 unfolding ask_reply
 ask_refused (refused m) n e = let z : m ≡ n = cc in ap refused z
 ask_refused (accepted f) n e = absurd (never (failing (automaton_of f.table) (question (rows_in f))) e)
   where
-    never : (o : option.Option ℕ) → asked_reply (automaton_of f.table) o ≡ not_asked n → ⊥
+    never : (o : option.Option ℕ) → asked_reply (automaton_of f.table) o ≡ Err n → ⊥
     never option.none h = let z : ◌≡◌ {A = ℕ} 0 1 = cc in omega arith
     never (option.some k) h = let z : ◌≡◌ {A = ℕ} 0 1 = cc in omega arith
 
@@ -137,7 +138,7 @@ module _ (s g : List ℕ) (b : ReachBuffers) where
   }
     where
       go : ((a : Automaton) (x : Target) → TableFile s a → TargetFile a g x → T (search_room b) → ⊥) → (j : Judged WithTarget) → reach_files b s g ≡ j
-          → ((n : Refusal) × (reach_files b s g ≡ refused n) × (reach_reply j ≡ Refused n)) × (reach_left j b ≡ b)
+          → ((n : Refusal) × (reach_files b s g ≡ refused n) × (reach_reply j ≡ Err n)) × (reach_left j b ≡ b)
       go none (refused n) e = ((n, e, refl), refl)
       go none (accepted f) e =
           let (room, files) = required (refusal 9 0 0) (λ ok. target_files s g) (search_room b) f e in
@@ -163,7 +164,7 @@ module _ (w : Notation) (s q : List ℕ) (b : AskBuffers) where
   unfolding ask_files
   rows-roomy h = passes (refusal 9 0 0) (λ ok. question_files w s q) (rows_room b) (T_true (rows_room b) h)
 
-  turned-back : (a : Automaton) → TableFile s a → T (rows_room b) → (n : Refusal) → ask_reply (ask_files w b s q) ≡ not_asked n → QuestionRefused w a q n
+  turned-back : (a : Automaton) → TableFile s a → T (rows_room b) → (n : Refusal) → ask_reply (ask_files w b s q) ≡ Err n → QuestionRefused w a q n
   turned-back a file room n h = question-turned w s q a file n (ask_refused (question_files w s q) n (sym (ap ask_reply (rows-roomy room)) ∙ h))
 
   pub ask_means : AskMeans w s q (ask_reply (ask_files w b s q)) b (ask_left (ask_files w b s q) b)
@@ -175,7 +176,7 @@ module _ (w : Notation) (s q : List ℕ) (b : AskBuffers) where
   }
     where
       go : ((a : Automaton) (f : Formula Atom) (rs : List Row) → TableFile s a → QuestionSaid w a q f rs → T (rows_room b) → ⊥) → (j : Judged WithQuestion) → ask_files w b s q ≡ j
-          → ((n : Refusal) × (ask_files w b s q ≡ refused n) × (ask_reply j ≡ not_asked n)) × (ask_left j b ≡ b)
+          → ((n : Refusal) × (ask_files w b s q ≡ refused n) × (ask_reply j ≡ Err n)) × (ask_left j b ≡ b)
       go none (refused n) e = ((n, e, refl), refl)
       go none (accepted f) e =
           let (room, files) = required (refusal 9 0 0) (λ ok. question_files w s q) (rows_room b) f e in
@@ -213,20 +214,20 @@ reach_code-means s g = record {
     answer : (a : Automaton) (x : Target) → TableFile s a → TargetFile a g x → TargetAnswer s a x (reach_reply (target_files s g)) ample (reach_left (target_files s g) ample)
     answer a x file target = ((demand_3 s a file).0 g x target ample ample_room).answer
 
-    zero : (a : Automaton) (x : Target) (r : Reaching) (b : ReachBuffers) → TargetAnswer s a x r ample b → (reach_code r ≡ 0) ↔ meaning.Never a x
-    zero a x (Never count) b (never, _, _) = ((λ e. never), (λ n. refl))
-    zero a x (Reached n count) b given = ((λ e. absurd (omega arith)), (λ never. absurd (never _ _ given.taken.shortest.reaches)))
-    zero a x (Refused r) b given = elim given [ ]
+    zero : (a : Automaton) (x : Target) (r : Result Answer Refusal) (b : ReachBuffers) → TargetAnswer s a x r ample b → (reach_code r ≡ 0) ↔ meaning.Never a x
+    zero a x (Ok (Never count)) b (never, _, _) = ((λ e. never), (λ n. refl))
+    zero a x (Ok (Reached n count)) b given = ((λ e. absurd (omega arith)), (λ never. absurd (never _ _ given.taken.shortest.reaches)))
+    zero a x (Err r) b given = elim given [ ]
 
-    one : (a : Automaton) (x : Target) (r : Reaching) (b : ReachBuffers) → TargetAnswer s a x r ample b → (reach_code r ≡ 1) ↔ ((v : List ℕ) × (ms : List Move) × Reaches a x v ms)
-    one a x (Never count) b (never, _, _) = ((λ e. absurd (omega arith)), (λ (v, ms, reaches). absurd (never v ms reaches)))
-    one a x (Reached n count) b given = ((λ e. (given.contents, given.moves, given.taken.shortest.reaches)), (λ r. refl))
-    one a x (Refused r) b given = elim given [ ]
+    one : (a : Automaton) (x : Target) (r : Result Answer Refusal) (b : ReachBuffers) → TargetAnswer s a x r ample b → (reach_code r ≡ 1) ↔ ((v : List ℕ) × (ms : List Move) × Reaches a x v ms)
+    one a x (Ok (Never count)) b (never, _, _) = ((λ e. absurd (omega arith)), (λ (v, ms, reaches). absurd (never v ms reaches)))
+    one a x (Ok (Reached n count)) b given = ((λ e. (given.contents, given.moves, given.taken.shortest.reaches)), (λ r. refl))
+    one a x (Err r) b given = elim given [ ]
 
-    low : (a : Automaton) (x : Target) (r : Reaching) (b : ReachBuffers) → TargetAnswer s a x r ample b → 100 ≤ reach_code r → ⊥
-    low a x (Never count) b answer h = omega arith
-    low a x (Reached n count) b answer h = omega arith
-    low a x (Refused r) b answer h = elim answer [ ]
+    low : (a : Automaton) (x : Target) (r : Result Answer Refusal) (b : ReachBuffers) → TargetAnswer s a x r ample b → 100 ≤ reach_code r → ⊥
+    low a x (Ok (Never count)) b answer h = omega arith
+    low a x (Ok (Reached n count)) b answer h = omega arith
+    low a x (Err r) b answer h = elim answer [ ]
 
 pub ask_code-means : (w : Notation) (s q : List ℕ) → AskCodeMeans w s q (ask_code (ask_reply (question_files w s q)))
 ask_code-means w s q = record {
@@ -244,18 +245,18 @@ ask_code-means w s q = record {
         → QuestionAnswer a f (ask_reply (question_files w s q)) wide.contents (ask_left (question_files w s q) wide).contents
     answer a f rs file said = ((demand_3 s a file).1 w q f rs said wide wide_room).answer
 
-    zero : (a : Automaton) (f : Formula Atom) (r : Asking) (v : List ℕ) → QuestionAnswer a f r wide.contents v
+    zero : (a : Automaton) (f : Formula Atom) (r : Result Asking Refusal) (v : List ℕ) → QuestionAnswer a f r wide.contents v
         → (ask_code r ≡ 0) ↔ ((v : List ℕ) × T (permitted a v) × (Holds a f (initial a v) → ⊥))
-    zero a f Yes u (holds, _) = ((λ e. absurd (omega arith)), (λ (v, ok, fails). absurd (fails (holds v ok))))
-    zero a f (No k n) u (_, (v, fails, _)) = ((λ e. (v, fails.start, fails.fails)), (λ x. refl))
-    zero a f (not_asked r) u given = elim given [ ]
+    zero a f (Ok Yes) u (holds, _) = ((λ e. absurd (omega arith)), (λ (v, ok, fails). absurd (fails (holds v ok))))
+    zero a f (Ok (No k n)) u (_, (v, fails, _)) = ((λ e. (v, fails.start, fails.fails)), (λ x. refl))
+    zero a f (Err r) u given = elim given [ ]
 
-    one : (a : Automaton) (f : Formula Atom) (r : Asking) (v : List ℕ) → QuestionAnswer a f r wide.contents v → (ask_code r ≡ 1) ↔ HoldsAtStarts a f
-    one a f Yes u (holds, _) = ((λ e. holds), (λ x. refl))
-    one a f (No k n) u (_, (v, fails, _)) = ((λ e. absurd (omega arith)), (λ holds. absurd (fails.fails (holds v fails.start))))
-    one a f (not_asked r) u given = elim given [ ]
+    one : (a : Automaton) (f : Formula Atom) (r : Result Asking Refusal) (v : List ℕ) → QuestionAnswer a f r wide.contents v → (ask_code r ≡ 1) ↔ HoldsAtStarts a f
+    one a f (Ok Yes) u (holds, _) = ((λ e. holds), (λ x. refl))
+    one a f (Ok (No k n)) u (_, (v, fails, _)) = ((λ e. absurd (omega arith)), (λ holds. absurd (fails.fails (holds v fails.start))))
+    one a f (Err r) u given = elim given [ ]
 
-    low : (a : Automaton) (f : Formula Atom) (r : Asking) (v : List ℕ) → QuestionAnswer a f r wide.contents v → 100 ≤ ask_code r → ⊥
-    low a f Yes u answer h = omega arith
-    low a f (No k n) u answer h = omega arith
-    low a f (not_asked r) u answer h = elim answer [ ]
+    low : (a : Automaton) (f : Formula Atom) (r : Result Asking Refusal) (v : List ℕ) → QuestionAnswer a f r wide.contents v → 100 ≤ ask_code r → ⊥
+    low a f (Ok Yes) u answer h = omega arith
+    low a f (Ok (No k n)) u answer h = omega arith
+    low a f (Err r) u answer h = elim answer [ ]

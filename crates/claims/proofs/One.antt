@@ -1,6 +1,6 @@
 -- The claims leave no freedom: two replies with their buffers that meet one claim are equal.
 -- Assumes nothing.
-use Prim.Native.Nat.{ℕ, zero, suc, pred, ◌+◌, ◌*◌, ◌/◌, ◌%◌, ◌≤◌, ◌<◌, ◌^◌}
+use Prim.Native.Nat.{ℕ, zero, suc, ◌+◌, ◌*◌, ◌<◌}
 use mathlib.Core.Bool.{Bool, true, false}
 use mathlib.Core.List.{List, [], ◌∷◌, append_cancel_right}
 use mathlib.Core.Logic.{by_cases}
@@ -8,7 +8,7 @@ use mathlib.Core.Path.{◌≡◌, refl, sym, ap, ◌∙◌, subst, subst⁻¹}
 use native.Mathlib.Decide.{dec_lt}
 use native.Mathlib.Omega.{arith}
 use lib.Dec.{T}
-use lib.ListN.{length, get_or, take}
+use lib.ListN.{get_or, take}
 use lib.Seq.{get_or-take}
 use Rattle.lists.specs.Arrays.{Kept}
 use Rattle.lists.proofs.Arrays.{kept-one}
@@ -30,10 +30,12 @@ use Rattle.moves.proofs.Taken.{one-taken}
 use Rattle.replay.specs.RunForm.{flat_run}
 use Rattle.concretization.specs.RunLines.{run_lines}
 use Rattle.claims.specs.Files.{ReachBuffers, reach_buffers}
-use Rattle.claims.specs.Reachable.{RunTo, through, LeastRun, FirstPath, SearchClaim}
+use Rattle.claims.specs.Reachable.{LeastRun, FirstPath, SearchClaim}
 use Rattle.claims.specs.Demand.{RunGiven, TargetAnswer, count_of, ReachClaim, FailsWith}
-use Rattle.claims.specs.declared.Reaching.{Reaching}
-use Rattle.claims.specs.declared.Reaching.TheVariants.{Never, Reached, Refused}
+use Rattle.witness.specs.declared.Answer.{Answer}
+use Rattle.witness.specs.declared.Answer.TheVariants.{Never, Reached}
+use Rattle.std.proofs.Common.{Result, Ok, Err}
+use Rattle.refusals.specs.declared.Refusal.{Refusal}
 use Rattle.claims.proofs.Least.{last_of, last_snoc}
 
 -- Least steps, first paths, the words and lists of a search
@@ -118,22 +120,22 @@ one-run s a wf g n m b x y p q =
     front_entry n xs ys i h e = sym (get_or-take n xs i 0 h) ∙ ap (λ l. get_or l i 0) e ∙ get_or-take n ys i 0 h
 
 -- the reply and all buffers of a call on a target
-pub one_reach : (s : List ℕ) (a : Automaton) → T (well_formed a) → (g : Target) (r q : Reaching) (b x y : ReachBuffers) → ReachClaim s a g r b x → ReachClaim s a g q b y → (r ≡ q) × (x ≡ y)
+pub one_reach : (s : List ℕ) (a : Automaton) → T (well_formed a) → (g : Target) (r q : Result Answer Refusal) (b x y : ReachBuffers) → ReachClaim s a g r b x → ReachClaim s a g q b y → (r ≡ q) × (x ≡ y)
 one_reach s a wf g r q b x y c d =
     let (w, l, k) = one-search a b x y c.search d.search in
     let n : count_of r ≡ count_of q = c.count ∙ ap (λ ws. population (member ws) 10784) w ∙ sym d.count in
     go r q c.answer d.answer n w l k
   where
-    go : (r q : Reaching) → TargetAnswer s a g r b x → TargetAnswer s a g q b y → count_of r ≡ count_of q → x.words ≡ y.words → x.least ≡ y.least → x.links ≡ y.links → (r ≡ q) × (x ≡ y)
-    go (Never i) (Never j) (_, u, p) (_, u', p') n w l k = (ap Never n, λ i. reach_buffers (w i) (l i) (k i) ((u ∙ sym u') i) ((p ∙ sym p') i))
-    go (Never i) (Reached m j) (never, _, _) given n w l k = absurd (never _ _ given.taken.shortest.reaches)
-    go (Reached m j) (Never i) given (never, _, _) n w l k = absurd (never _ _ given.taken.shortest.reaches)
-    go (Reached m i) (Reached m' j) p q n w l k =
+    go : (r q : Result Answer Refusal) → TargetAnswer s a g r b x → TargetAnswer s a g q b y → count_of r ≡ count_of q → x.words ≡ y.words → x.least ≡ y.least → x.links ≡ y.links → (r ≡ q) × (x ≡ y)
+    go (Ok (Never i)) (Ok (Never j)) (_, u, p) (_, u', p') n w l k = (ap (λ c. Ok (Never c)) n, λ i. reach_buffers (w i) (l i) (k i) ((u ∙ sym u') i) ((p ∙ sym p') i))
+    go (Ok (Never i)) (Ok (Reached m j)) (never, _, _) given n w l k = absurd (never _ _ given.taken.shortest.reaches)
+    go (Ok (Reached m j)) (Ok (Never i)) given (never, _, _) n w l k = absurd (never _ _ given.taken.shortest.reaches)
+    go (Ok (Reached m i)) (Ok (Reached m' j)) p q n w l k =
         let (e, u, v) = one-run s a wf g m m' b x y p q in
-        (λ i. Reached (e i) (n i), λ i. reach_buffers (w i) (l i) (k i) (u i) (v i))
-    go (Never i) (Refused x) p given n w l k = elim given [ ]
-    go (Reached m j) (Refused x) given q n w l k = elim q [ ]
-    go (Refused x) r p given n w l k = elim p [ ]
+        (λ i. Ok (Reached (e i) (n i)), λ i. reach_buffers (w i) (l i) (k i) (u i) (v i))
+    go (Ok (Never i)) (Err x) p given n w l k = elim given [ ]
+    go (Ok (Reached m j)) (Err x) given q n w l k = elim q [ ]
+    go (Err x) r p given n w l k = elim p [ ]
 
 -- The answer to a question
 

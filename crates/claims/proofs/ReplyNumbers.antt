@@ -1,8 +1,6 @@
 -- The replies in document 01's numbers are those of what was read.
 -- Assumes nothing.
-use Prim.Native.Nat.{ℕ}
 use mathlib.Core.Bool.{Bool, true, false}
-use mathlib.Core.List.{List}
 use mathlib.Core.Option.{Option, none, some}
 use mathlib.Core.Path.{◌≡◌, refl}
 use Rattle.refusals.specs.Judged.{Judged, told}

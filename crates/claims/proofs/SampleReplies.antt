@@ -40,7 +40,8 @@ use Rattle.claims.specs.Files.{target_files}
 use Rattle.claims.specs.ReachReply.{found_reply, reach_reply}
 use Rattle.claims.specs.AskReply.{asked_reply}
 use Rattle.claims.specs.declared.Notation.TheVariants.{Rows as in_rows, Text as in_text}
-use Rattle.claims.specs.declared.Reaching.TheVariants.{Never, Reached}
+use Rattle.witness.specs.declared.Answer.TheVariants.{Never, Reached}
+use Rattle.std.proofs.Common.{Ok}
 use Rattle.claims.specs.SampleReplies.{Sample, Shows, never_by_one_text, samples}
 use Rattle.claims.proofs.Meaning.{reach_reply_lem, ask_reply_lem}
 
@@ -100,8 +101,8 @@ never_by_one_holds = refl
 
 -- the run along the walk that is found
 shown : (s g : List ℕ) (a : Automaton) (x : Target) (w : Walk) (n count : ℕ) (v : List ℕ) (ms : List Move) → TableFile s a → TargetFile a g x → nearest_to a x ≡ some w
-    → found_reply a (some w) ≡ Reached n count → walk_contents a w ≡ v → walk_moves 15 a w ≡ ms
-    → (reach_reply (target_files s g) ≡ Reached n count) × ((a : Automaton) × (x : Target) × TableFile s a × TargetFile a g x × Taken 15 a x v ms)
+    → found_reply a (some w) ≡ Ok (Reached n count) → walk_contents a w ≡ v → walk_moves 15 a w ≡ ms
+    → (reach_reply (target_files s g) ≡ Ok (Reached n count)) × ((a : Automaton) × (x : Target) × TableFile s a × TargetFile a g x × Taken 15 a x v ms)
 shown s g a x w n count v ms file target e r c m = (
   reach_reply_lem s g a x file target ∙ ap (found_reply a) e ∙ r,
   (a, x, file, target, subst (Taken 15 a x v) m (subst (λ u. Taken 15 a x u (walk_moves 15 a w)) c (taken a file.fits 15 (limited-roomy a file.fits file.small) x target.fits w e))),
@@ -110,13 +111,13 @@ shown s g a x w n count v ms file target e r c m = (
 pub samples_hold : (c : Sample) → Memᴰ c samples → Shows c
 unfolding flat_map
 samples_hold c m =
-    ⊎_elim (λ e. subst⁻¹ Shows e (shown _ _ sample delivered walk 2 3 _ _ sample_says delivered_says sample-walk (ap (Reached 2) sample-count) refl refl))
-    (λ m. ⊎_elim (λ e. subst⁻¹ Shows e (reach_reply_lem _ _ sample delivered_by_one sample_says delivered_by_one_says ∙ ap (found_reply sample) unreached ∙ ap Never sample-count))
-    (λ m. ⊎_elim (λ e. subst⁻¹ Shows e (shown _ _ loose delivered_by_one loose_walk 2 5 _ _ loose_says loose_by_one_says loose-walk (ap (Reached 2) (found-count loose tt _ loose-found)) refl refl))
+    ⊎_elim (λ e. subst⁻¹ Shows e (shown _ _ sample delivered walk 2 3 _ _ sample_says delivered_says sample-walk (ap (λ c. Ok (Reached 2 c)) sample-count) refl refl))
+    (λ m. ⊎_elim (λ e. subst⁻¹ Shows e (reach_reply_lem _ _ sample delivered_by_one sample_says delivered_by_one_says ∙ ap (found_reply sample) unreached ∙ ap (λ c. Ok (Never c)) sample-count))
+    (λ m. ⊎_elim (λ e. subst⁻¹ Shows e (shown _ _ loose delivered_by_one loose_walk 2 5 _ _ loose_says loose_by_one_says loose-walk (ap (λ c. Ok (Reached 2 c)) (found-count loose tt _ loose-found)) refl refl))
     (λ m. ⊎_elim (λ e. subst⁻¹ Shows e (ask_reply_lem in_rows _ _ sample _ always_rows sample_says (always_says, refl) ∙ ap (asked_reply sample) always-holds))
     (λ m. ⊎_elim (λ e. subst⁻¹ Shows e (ask_reply_lem in_rows _ _ sample _ inevitable_rows sample_says (inevitable_says, refl) ∙ ap (asked_reply sample) inevitable_holds))
     (λ m. ⊎_elim (λ e. subst⁻¹ Shows e (ask_reply_lem in_rows _ _ stopped _ inevitable_rows stopped_says (stopped_inevitable_says, refl) ∙ ap (asked_reply stopped) stopped-fails))
     (λ m. ⊎_elim (λ e. subst⁻¹ Shows e (ask_reply_lem in_text _ _ sample (formula_of never_by_one) (rows_from 0 never_by_one) sample_says (never_by_one, never_by_one_says, refl, refl) ∙ ap (asked_reply sample) never_by_one_holds))
-    (λ m. ⊎_elim (λ e. subst⁻¹ Shows e (shown _ _ largest_sample delivered largest_walk 2 6 _ _ largest_says largest-delivered_says largest-walk (ap (Reached 2) (found-count largest_sample tt _ largest-found)) refl refl))
+    (λ m. ⊎_elim (λ e. subst⁻¹ Shows e (shown _ _ largest_sample delivered largest_walk 2 6 _ _ largest_says largest-delivered_says largest-walk (ap (λ c. Ok (Reached 2 c)) (found-count largest_sample tt _ largest-found)) refl refl))
     (λ m. ⊎_elim (λ e. subst⁻¹ Shows e (ask_reply_lem in_rows _ _ largest_sample _ waiting_rows largest_says (largest-waiting_says, refl) ∙ ap (asked_reply largest_sample) largest-fails))
     (λ m. absurd (Memᴰ.not-nil m)) (Memᴰ.cases_cons m)) (Memᴰ.cases_cons m)) (Memᴰ.cases_cons m)) (Memᴰ.cases_cons m)) (Memᴰ.cases_cons m)) (Memᴰ.cases_cons m)) (Memᴰ.cases_cons m)) (Memᴰ.cases_cons m)) (Memᴰ.cases_cons m)

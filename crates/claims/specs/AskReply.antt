@@ -1,7 +1,8 @@
 -- What the call on a question answers and leaves in its buffers, for every input. This is what a reader believes.
 -- Assumes nothing.
-use Rattle.std.specs.Prelude.{ℕ, List, [], ◌∷◌, get_or}
+use Rattle.std.specs.Prelude.{ℕ, List, [], ◌∷◌, get_or, Result, Ok, Err}
 use Rattle.std.proofs.Math.Option.{Option, none, some}
+use Rattle.refusals.specs.declared.Refusal.{Refusal}
 use Rattle.refusals.specs.Judged.{Judged, left, refusal_numbers}
 use Rattle.refusals.specs.Judged.Judged.{accepted, refused}
 use Rattle.classes.specs.Contents.{contents}
@@ -15,16 +16,16 @@ use Rattle.lists.specs.Arrays.{padded}
 use Rattle.answers.specs.Rows.{shown}
 use Rattle.claims.specs.Files.{WithQuestion, AskBuffers, ask_buffers}
 use Rattle.claims.specs.declared.Asking.{Asking}
-use Rattle.claims.specs.declared.Asking.TheVariants.{Yes, No, Refused}
+use Rattle.claims.specs.declared.Asking.TheVariants.{Yes, No}
 
 -- the contents given back for class k of the automaton
 abbrev pub class_contents : Automaton → ℕ → List ℕ
 class_contents a k = contents a.constants (get_or (classes a) k [])
 
 -- yes, or no with the smallest failing start class and how many registers its contents have
-abbrev pub asked_reply : Automaton → Option ℕ → Asking
-asked_reply a none = Yes
-asked_reply a (some k) = No k a.registers
+abbrev pub asked_reply : Automaton → Option ℕ → Result Asking Refusal
+asked_reply a none = Ok Yes
+asked_reply a (some k) = Ok (No k a.registers)
 
 -- the contents given back for the class of a no, in five slots; else what they were
 abbrev pub asked_contents : Automaton → Option ℕ → List ℕ → List ℕ
@@ -36,9 +37,9 @@ abbrev pub rows_in : WithQuestion → List Row
 rows_in f = rows_of f.rows.form f.rows.count
 
 -- the reply
-unfoldable pub ask_reply : Judged WithQuestion → Asking
+unfoldable pub ask_reply : Judged WithQuestion → Result Asking Refusal
 ask_reply (accepted f) = asked_reply (automaton_of f.table) (failing (automaton_of f.table) (question (rows_in f)))
-ask_reply (refused r) = Refused r
+ask_reply (refused r) = Err r
 
 -- document 01's numbers for it
 abbrev pub asked_numbers : Automaton → Option ℕ → List ℕ

@@ -1,28 +1,29 @@
 -- What the editor receives for a reply: 0 (never, no), 1 (reached, yes), or 100 plus the refusal's number. This is what a reader believes.
 -- Assumes nothing.
-use Rattle.std.specs.Prelude.{ℕ, ◌+◌, ◌≤◌, List, ◌↔◌, ◌≡◌, T}
+use Rattle.std.specs.Prelude.{ℕ, ◌+◌, ◌≤◌, List, ◌↔◌, ◌≡◌, T, Result, Ok, Err}
 use Rattle.automata.specs.Automaton.{Automaton}
 use Rattle.automata.specs.Runs.{Move, Target, Reaches, permitted, initial}
 use Rattle.automata.specs.Runs as meaning
 use Rattle.graphs.specs.Formulas.{Formula}
 use Rattle.automata.specs.Questions.{Atom, Row, Holds, HoldsAtStarts}
+use Rattle.refusals.specs.declared.Refusal.{Refusal}
 use Rattle.writing.specs.Said.{TableFile, TargetFile}
 use Rattle.claims.specs.Demand.{QuestionSaid}
 use Rattle.claims.specs.declared.Notation.{Notation}
-use Rattle.claims.specs.declared.Reaching.{Reaching}
-use Rattle.claims.specs.declared.Reaching.TheVariants.{Never, Reached, Refused}
+use Rattle.witness.specs.declared.Answer.{Answer}
+use Rattle.witness.specs.declared.Answer.TheVariants.{Never, Reached}
 use Rattle.claims.specs.declared.Asking.{Asking}
-use Rattle.claims.specs.declared.Asking.TheVariants.{Yes, No, Refused as not_asked}
+use Rattle.claims.specs.declared.Asking.TheVariants.{Yes, No}
 
-abbrev pub reach_code : Reaching → ℕ
-reach_code (Never count) = 0
-reach_code (Reached steps count) = 1
-reach_code (Refused r) = 100 + r.number
+abbrev pub reach_code : Result Answer Refusal → ℕ
+reach_code (Ok (Never count)) = 0
+reach_code (Ok (Reached steps count)) = 1
+reach_code (Err r) = 100 + r.number
 
-abbrev pub ask_code : Asking → ℕ
-ask_code Yes = 1
-ask_code (No class registers) = 0
-ask_code (not_asked r) = 100 + r.number
+abbrev pub ask_code : Result Asking Refusal → ℕ
+ask_code (Ok Yes) = 1
+ask_code (Ok (No class registers)) = 0
+ask_code (Err r) = 100 + r.number
 
 -- What the number n says, for the bytes s of a table and g of a target: 0 exactly for never, 1 exactly for reached, and 100 or more exactly where the bytes say no
 -- table and target

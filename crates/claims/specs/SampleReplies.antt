@@ -1,6 +1,6 @@
 -- Document 01's sample through the calls: the replies for its bytes, and the runs that are handed over. This is what a reader believes.
 -- Assumes nothing.
-use Rattle.std.specs.Prelude.{ℕ, List, [], ◌∷◌, ◌≡◌}
+use Rattle.std.specs.Prelude.{ℕ, List, [], ◌∷◌, ◌≡◌, Ok}
 use Rattle.automata.specs.Automaton.{Automaton}
 use Rattle.automata.specs.Runs.{Move, Target}
 use Rattle.automata.specs.Examples.{move}
@@ -10,7 +10,7 @@ use Rattle.writing.specs.Sample.{sample_bytes, loose_bytes, stopped_bytes, large
 use Rattle.claims.specs.Files.{target_files, question_files}
 use Rattle.claims.specs.ReachReply.{reach_reply}
 use Rattle.claims.specs.AskReply.{ask_reply}
-use Rattle.claims.specs.declared.Reaching.TheVariants.{Never, Reached}
+use Rattle.witness.specs.declared.Answer.TheVariants.{Never, Reached}
 use Rattle.claims.specs.declared.Notation.{Notation}
 use Rattle.claims.specs.declared.Notation.TheVariants.{Rows as in_rows, Text as in_text}
 use Rattle.claims.specs.declared.Asking.{Asking}
@@ -23,9 +23,9 @@ pub data Sample : Type 0 where
 
 -- what is replied for the bytes; and the run that is taken for what they say
 abbrev pub Shows : Sample → Type 0
-Shows (reaches s g n count v ms) = (reach_reply (target_files s g) ≡ Reached n count) × ((a : Automaton) × (x : Target) × TableFile s a × TargetFile a g x × Taken 15 a x v ms)
-Shows (never s g count) = reach_reply (target_files s g) ≡ Never count
-Shows (asks w s q r) = ask_reply (question_files w s q) ≡ r
+Shows (reaches s g n count v ms) = (reach_reply (target_files s g) ≡ Ok (Reached n count)) × ((a : Automaton) × (x : Target) × TableFile s a × TargetFile a g x × Taken 15 a x v ms)
+Shows (never s g count) = reach_reply (target_files s g) ≡ Ok (Never count)
+Shows (asks w s q r) = ask_reply (question_files w s q) ≡ Ok r
 
 -- AG!(L3&r1=r2), document 02's own text
 abbrev pub never_by_one_text : List ℕ

@@ -12,6 +12,7 @@ use lib.Dec.{T, eqb, leb, ltb, lt→ltb}
 use lib.ListN.{length, get_or, take}
 use Rattle.lists.specs.Arrays.{written, Kept}
 use Rattle.lists.proofs.Arrays.{written-begins, front_kept}
+use Rattle.std.specs.Prelude.{Result, Ok, Err}
 use Rattle.refusals.specs.declared.Refusal.{Refusal}
 use Rattle.refusals.specs.Judged.{Judged, refusal, ◌then◌, require}
 use Rattle.refusals.specs.Judged.Judged.{accepted, refused}
@@ -31,8 +32,6 @@ use Rattle.classes.proofs.Contents.{contents-labels, contents-length, representa
 use Rattle.classes.proofs.GivenBack.{contents-given}
 use Rattle.classes.proofs.Matrices.{matrix-class, class_of-matrix, class_of-matrix-is}
 use Rattle.catalogue.proofs.Complete.{lists-legal}
-use Rattle.classification.specs.declared.Number.TheVariants.{Refused as no_number, Is}
-use Rattle.classification.specs.declared.Written.TheVariants.{Refused as not_written, Done}
 use Rattle.classification.specs.ClassTests.{test_counts, test_lists, test_range, class_found, number_of, done_of, written_of}
 use Rattle.classification.specs.ClassCalls.{class_count_for, class_for, list_of, contents_for, matrix_for, matrix_contents_for, class_matrix_for, matrix_class_for}
 use Rattle.classification.specs.ClassClaims.{FitCounts, Constants, FitConstants, NumberMeans, WrittenMeans, CountMeans, ClassIs, ClassMeans, ContentsMean, MatrixMeans, ClassHas, ClassMatrixMeans, SomeHave, BackFrom, MatrixClassMeans, MatrixContentsMean, BackByMatrix}
@@ -47,7 +46,7 @@ module _ {Taken : Type 0} where
     unsaid = λ f. go f j refl;
   }
     where
-      go : (Taken → ⊥) → (i : Judged ℕ) → j ≡ i → (x : Refusal) × (number_of i ≡ no_number x)
+      go : (Taken → ⊥) → (i : Judged ℕ) → j ≡ i → (x : Refusal) × (number_of i ≡ Err x)
       go f (accepted n) e = absurd (f (only n e))
       go f (refused x) e = (x, refl)
 
@@ -55,16 +54,16 @@ module _ {Taken : Type 0} where
       → (Taken → (xs : List ℕ) × (j ≡ accepted xs) × (length xs ≡ n) × (n ≤ length before) × Right xs) → ((xs : List ℕ) → j ≡ accepted xs → Taken)
       → WrittenMeans Taken n Right (done_of j) before (written_of j before)
   written-means {Right} n j before right only = record {
-    said = λ t. let (xs, e, l, room, p) = right t in subst⁻¹ (λ i. (done_of i ≡ Done) × Right (take n (written_of i before)) × Kept n before (written_of i before)) e (front xs l room p);
+    said = λ t. let (xs, e, l, room, p) = right t in subst⁻¹ (λ i. (done_of i ≡ Ok tt) × Right (take n (written_of i before)) × Kept n before (written_of i before)) e (front xs l room p);
     unsaid = λ f. go f j refl;
   }
     where
-      front : (xs : List ℕ) → length xs ≡ n → n ≤ length before → Right xs → (Done ≡ Done) × Right (take n (written xs before)) × Kept n before (written xs before)
+      front : (xs : List ℕ) → length xs ≡ n → n ≤ length before → Right xs → (◌≡◌ {A = Result (Unit {0}) Refusal} (Ok tt) (Ok tt)) × Right (take n (written xs before)) × Kept n before (written xs before)
       front xs l room p =
           let same : take n (written xs before) ≡ xs = subst (λ m. take m (written xs before) ≡ xs) l (written-begins xs before) in
           (refl, subst⁻¹ Right same p, subst (λ m. Kept m before (written xs before)) l (front_kept xs before (length xs) refl (omega arith)))
 
-      go : (Taken → ⊥) → (i : Judged (List ℕ)) → j ≡ i → ((x : Refusal) × (done_of i ≡ not_written x)) × (written_of i before ≡ before)
+      go : (Taken → ⊥) → (i : Judged (List ℕ)) → j ≡ i → ((x : Refusal) × (done_of i ≡ Err x)) × (written_of i before ≡ before)
       go f (accepted xs) e = absurd (f (only xs e))
       go f (refused x) e = ((x, refl), refl)
 
@@ -85,12 +84,12 @@ module _ (r c : ℕ) (few : FitCounts r c) (cs : List ℕ) (cn : Constants c cs)
   -- contents have the number of a listed class exactly if they have its labels
   class-is : (v l : List ℕ) → length v ≡ r → Memᴰ l ls → ClassIs r cs v (index ls l) ↔ (labels cs v ≡ l)
   class-is v l e m =
-      let given : number_of (class_for r cs v) ≡ Is (index ls (labels cs v)) = ap number_of (class-given v e) in (
+      let given : number_of (class_for r cs v) ≡ Ok (index ls (labels cs v)) = ap number_of (class-given v e) in (
         (λ q.
-            let same : Is (index ls (labels cs v)) ≡ Is (index ls l) = sym given ∙ q in
+            let same : Ok (index ls (labels cs v)) ≡ Ok (index ls l) = sym given ∙ q in
             let i : index ls (labels cs v) ≡ index ls l = cc in
             sym (index-mem ls (labels cs v) (listed v e)).1 ∙ ap (λ n. get_or ls n []) i ∙ (index-mem ls l m).1),
-        (λ q. given ∙ ap (λ k. Is (index ls k)) q),
+        (λ q. given ∙ ap (λ k. Ok (index ls k)) q),
       )
 
 pub count-means : (r c : ℕ) → CountMeans r c (number_of (class_count_for r c))
@@ -136,7 +135,7 @@ contents_mean r cs k out = written-means r (contents_for r cs k out) out
       room,
       (
         contents-given cs l d legal,
-        (class-is r (length cs) fit.0 cs (refl, fit.1) (contents cs l) l wide (get_or-mem _ k [] h)).1 (contents-labels cs l d legal) ∙ ap Is (index-get_or (lists r (length cs)) k (lists_ascending r (length cs)) h),
+        (class-is r (length cs) fit.0 cs (refl, fit.1) (contents cs l) l wide (get_or-mem _ k [] h)).1 (contents-labels cs l d legal) ∙ ap Ok (index-get_or (lists r (length cs)) k (lists_ascending r (length cs)) h),
       ),
     ))
     (λ xs e.
@@ -258,11 +257,11 @@ module _ {B : Type 0} (f : List ℕ → B) where
   searched_10 (accepted x) (some l) other = ((λ e. let z : ◌≡◌ {A = ℕ} 0 1 = cc in absurd (omega arith)), λ (t, p). absurd (p l refl))
   searched_10 (refused r) o other = ((λ e. let z : r ≡ refusal 10 0 0 = cc in absurd (other (ap refused z))), λ (t, p). let z : ◌≡◌ {A = ℕ} 0 1 = cc in absurd (omega arith))
 
-number_10 : (j : Judged ℕ) → (number_of j ≡ no_number (refusal 10 0 0)) ↔ (j ≡ refused (refusal 10 0 0))
+number_10 : (j : Judged ℕ) → (number_of j ≡ Err (refusal 10 0 0)) ↔ (j ≡ refused (refusal 10 0 0))
 number_10 (accepted n) = ((λ e. let z : ◌≡◌ {A = ℕ} 0 1 = cc in absurd (omega arith)), ap number_of)
 number_10 (refused r) = ((λ e. let z : r ≡ refusal 10 0 0 = cc in ap refused z), ap number_of)
 
-written_10 : (j : Judged (List ℕ)) → (done_of j ≡ not_written (refusal 10 0 0)) ↔ (j ≡ refused (refusal 10 0 0))
+written_10 : (j : Judged (List ℕ)) → (done_of j ≡ Err (refusal 10 0 0)) ↔ (j ≡ refused (refusal 10 0 0))
 written_10 (accepted xs) = ((λ e. let z : ◌≡◌ {A = ℕ} 0 1 = cc in absurd (omega arith)), ap done_of)
 written_10 (refused r) = ((λ e. let z : r ≡ refusal 10 0 0 = cc in ap refused z), ap done_of)
 

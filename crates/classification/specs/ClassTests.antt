@@ -1,15 +1,12 @@
 -- What the calls on contents, classes and matrices turn back, by the numbers of document 01's last table; and their replies. This is what a reader believes.
 -- Assumes nothing.
-use Rattle.std.specs.Prelude.{ℕ, Bool, ◌&&◌, List, [], ◌∷◌, leb, ltb, length}
+use Rattle.std.specs.Prelude.{ℕ, Bool, ◌&&◌, List, [], ◌∷◌, leb, ltb, length, Result, Ok, Err}
 use Rattle.std.proofs.Math.Option.{Option, none, some}
+use Rattle.refusals.specs.declared.Refusal.{Refusal}
 use Rattle.refusals.specs.Judged.{Judged, refusal, refusal_numbers, ◌then◌, require, left}
 use Rattle.refusals.specs.Judged.Judged.{accepted, refused}
 use Rattle.classes.specs.Renaming.{rising}
 use Rattle.lists.specs.Arrays.{written}
-use Rattle.classification.specs.declared.Number.{Number}
-use Rattle.classification.specs.declared.Number.TheVariants.{Refused as no_number, Is}
-use Rattle.classification.specs.declared.Written.{Written}
-use Rattle.classification.specs.declared.Written.TheVariants.{Refused as not_written, Done}
 
 -- 9: contents, a matrix or a buffer whose length does not fit; then 3: more than five registers or two constants
 abbrev pub test_counts : Bool → ℕ → ℕ → Judged (Unit {0})
@@ -29,24 +26,24 @@ class_found none = refused (refusal 10 0 0)
 class_found (some k) = accepted k
 
 -- the reply of a call that asks for a number
-abbrev pub number_of : Judged ℕ → Number
-number_of (accepted n) = Is n
-number_of (refused r) = no_number r
+abbrev pub number_of : Judged ℕ → Result ℕ Refusal
+number_of (accepted n) = Ok n
+number_of (refused r) = Err r
 
 -- the reply of a call that writes, or only tests
-abbrev pub done_of : {A : Type 0} → Judged A → Written
-done_of (accepted x) = Done
-done_of (refused r) = not_written r
+abbrev pub done_of : {A : Type 0} → Judged A → Result (Unit {0}) Refusal
+done_of (accepted x) = Ok tt
+done_of (refused r) = Err r
 
 -- the lent buffer afterwards: the list at its front, or, where there is a refusal, as it was
 abbrev pub written_of : Judged (List ℕ) → List ℕ → List ℕ
 written_of j entry = left j (λ xs. written xs entry) entry
 
 -- document 01's numbers for each case: the number asked for, or the refusal's number, file and line
-abbrev pub numbers_of : Number → List ℕ
-numbers_of (Is n) = n ∷ []
-numbers_of (no_number r) = refusal_numbers r
+abbrev pub numbers_of : Result ℕ Refusal → List ℕ
+numbers_of (Ok n) = n ∷ []
+numbers_of (Err r) = refusal_numbers r
 
-abbrev pub written_numbers : Written → List ℕ
-written_numbers Done = []
-written_numbers (not_written r) = refusal_numbers r
+abbrev pub written_numbers : Result (Unit {0}) Refusal → List ℕ
+written_numbers (Ok x) = []
+written_numbers (Err r) = refusal_numbers r

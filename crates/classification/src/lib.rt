@@ -4,6 +4,7 @@
 ghost use Rattle.std.specs.Prelude.{◌≡◌, List, [], ◌∷◌, ℕ, ◌*◌, ◌≤◌, ◌<◌, length, take};
 ghost use Rattle.refusals.specs.Judged.{Judged, refusal, told};
 ghost use Rattle.classes.specs.Classes.{lists};
+ghost use Rattle.classes.specs.Contents.{contents};
 ghost use Rattle.classes.specs.Renaming.{rising};
 ghost use Rattle.lists.specs.Arrays.{padded, written};
 ghost use Rattle.classification.specs.ClassTests.{test_counts, test_lists, number_of, numbers_of, done_of, written_numbers, written_of};
@@ -29,31 +30,6 @@ ghost use Rattle.classification.specs.ClassClaims.{
 
 use refusals::Refusal;
 
-// A number, or a refusal.
-#[derive(Clone, Copy)]
-pub enum Number {
-    Is(usize),
-    Refused(Refusal),
-}
-
-// What a call says that writes to a lent buffer.
-#[derive(Clone, Copy)]
-pub enum Written {
-    Done,
-    Refused(Refusal),
-}
-
-// The refusal of this number, of no file.
-fn refusal(number: u32) -> Refusal
-    ensures { result ≡ refusal number 0 0 }
-{
-    Refusal {
-        number: number,
-        file: 0,
-        line: 0,
-    }
-}
-
 fn square(n: u32) -> usize
     ensures { result ≡ n * n }
 {
@@ -61,19 +37,16 @@ fn square(n: u32) -> usize
 }
 
 // Whether lengths and counts are taken.
-fn test_counts(fits: bool, registers: u32, constants: usize) -> Written
+fn test_counts(fits: bool, registers: u32, constants: usize) -> Result<(), Refusal>
     ensures { result ≡ done_of (test_counts fits registers constants) }
 {
     if !fits {
-        return Written::Refused(refusal(9));
+        return Err(Refusal::of_call(9));
     }
-    if 5 < registers {
-        return Written::Refused(refusal(3));
+    if 5 < registers || 2 < constants {
+        return Err(Refusal::of_call(3));
     }
-    if 2 < constants {
-        return Written::Refused(refusal(3));
-    }
-    Written::Done
+    Ok(())
 }
 
 // Do the constants, two at most, rise?
@@ -81,63 +54,29 @@ fn rises(constants: &[u32]) -> bool
     requires { length constants.now ≤ 2 }
     ensures { result ≡ rising constants.now }
 {
-    if constants.len() < 2 {
-        return true;
-    }
-    constants[0] < constants[1]
+    constants.len() < 2 || constants[0] < constants[1]
 }
 
 // Whether lengths, counts and constants are taken.
-fn test_lists(fits: bool, registers: u32, constants: &[u32]) -> Written
+fn test_lists(fits: bool, registers: u32, constants: &[u32]) -> Result<(), Refusal>
     ensures { result ≡ done_of (test_lists fits registers constants.now) }
 {
-    let tests = test_counts(fits, registers, constants.len());
-    match tests {
-        Written::Refused(r) => Written::Refused(r),
-        Written::Done => {
-            if rises(constants) {
-                return Written::Done;
-            }
-            Written::Refused(refusal(4))
-        }
+    test_counts(fits, registers, constants.len())?;
+    if rises(constants) {
+        Ok(())
+    } else {
+        Err(Refusal::of_call(4))
     }
 }
 
-// The constants, two at most, in an array.
-fn pair(constants: &[u32]) -> [u32; 2]
-    requires { length constants.now ≤ 2 }
-    ensures { take (length constants.now) result ≡ constants.now }
+// The numbers, N at most, in an array; zeros after them.
+fn array_of<const N: usize>(list: &[u32]) -> [u32; N]
+    requires { length list.now ≤ N }
+    ensures { result ≡ padded N list.now }
 {
-    let n = constants.len();
-    if n == 0 {
-        return [0, 0];
-    }
-    if n == 1 {
-        return [constants[0], 0];
-    }
-    [constants[0], constants[1]]
-}
-
-// The contents, five at most, in an array; zeros after them.
-fn five(contents: &[u32]) -> [u32; 5]
-    requires { length contents.now ≤ 5 }
-    ensures { result ≡ padded 5 contents.now }
-{
-    let mut list = [0u32; 5];
-    let mut i = 0;
-    while i < contents.len() {
-        list[i] = contents[i];
-        i += 1;
-    }
-    list
-}
-
-// The first n numbers to the front of a buffer.
-fn put(list: [u32; 5], n: usize, out: &mut [u32])
-    requires { (n ≤ 5) × (n ≤ length out.old) }
-    ensures { out.new ≡ written (take n list) out.old }
-{
-    lists::put(out, 0, &list[..n]);
+    let mut array = [0u32; N];
+    array[..list.len()].copy_from_slice(list);
+    array
 }
 
 // The list of a class; zeros after it.
@@ -151,22 +90,30 @@ fn class_list(r: usize, c: usize, class: usize) -> [u8; 5]
     catalogue::class_labels(&table, &rows, r, c, class)
 }
 
+// The contents given back for a class, to the front of a buffer.
+fn write_contents(r: usize, constants: &[u32], class: usize, out: &mut [u32])
+    requires { (r ≤ 5) × (length constants.now ≤ 2) × (class < length (lists r (length constants.now))) × (r ≤ length out.old) }
+    ensures { out.new ≡ written (contents constants.now (list_of r (length constants.now) class)) out.old }
+{
+    let c = constants.len();
+    let labels = class_list(r, c, class);
+    let list = catalogue::contents_of(array_of(constants), c, labels, r);
+    out[..r].copy_from_slice(&list[..r]);
+}
+
 // The number of classes.
-pub fn class_count(registers: u32, constants: u32) -> Number
+pub fn class_count(registers: u32, constants: u32) -> Result<usize, Refusal>
     ensures { let j : Judged ℕ = class_count_for registers constants in
         (result ≡ number_of j)
         × (numbers_of result ≡ told (λ n. n ∷ []) j)
         × CountMeans registers constants result }
 {
-    let tests = test_counts(true, registers, constants as usize);
-    match tests {
-        Written::Refused(r) => Number::Refused(r),
-        Written::Done => Number::Is(catalogue::class_count(registers as usize, constants as usize)),
-    }
+    test_counts(true, registers, constants as usize)?;
+    Ok(catalogue::class_count(registers as usize, constants as usize))
 }
 
 // The class number of contents.
-pub fn class_of(registers: u32, constants: &[u32], contents: &[u32]) -> Number
+pub fn class_of(registers: u32, constants: &[u32], contents: &[u32]) -> Result<usize, Refusal>
     ensures { let cs : List ℕ = constants.now in
         let v : List ℕ = contents.now in
         let j : Judged ℕ = class_for registers cs v in
@@ -175,19 +122,22 @@ pub fn class_of(registers: u32, constants: &[u32], contents: &[u32]) -> Number
         × ClassMeans registers cs v result }
 {
     let fits = contents.len() == registers as usize;
-    let tests = test_lists(fits, registers, constants);
-    match tests {
-        Written::Refused(r) => Number::Refused(r),
-        Written::Done => {
-            let cs = pair(constants);
-            let list = five(contents);
-            Number::Is(catalogue::class_of(cs, constants.len(), list, contents.len()))
-        }
-    }
+    test_lists(fits, registers, constants)?;
+    Ok(catalogue::class_of(
+        array_of(constants),
+        constants.len(),
+        array_of(contents),
+        contents.len(),
+    ))
 }
 
 // The contents given back for a class.
-pub fn contents_of(registers: u32, constants: &[u32], class: usize, out: &mut [u32]) -> Written
+pub fn contents_of(
+    registers: u32,
+    constants: &[u32],
+    class: usize,
+    out: &mut [u32],
+) -> Result<(), Refusal>
     ensures { let cs : List ℕ = constants.now in
         let before : List ℕ = out.old in
         let after : List ℕ = out.new in
@@ -198,27 +148,21 @@ pub fn contents_of(registers: u32, constants: &[u32], class: usize, out: &mut [u
         × ContentsMean registers cs class result before after }
 {
     let r = registers as usize;
-    let fits = r <= out.len();
-    let tests = test_lists(fits, registers, constants);
-    match tests {
-        Written::Refused(r) => Written::Refused(r),
-        Written::Done => {
-            let c = constants.len();
-            let count = catalogue::class_count(r, c);
-            if count <= class {
-                return Written::Refused(refusal(5));
-            }
-            let labels = class_list(r, c, class);
-            let cs = pair(constants);
-            let list = catalogue::contents_of(cs, c, labels, r);
-            put(list, r, out);
-            Written::Done
-        }
+    test_lists(r <= out.len(), registers, constants)?;
+    if catalogue::class_count(r, constants.len()) <= class {
+        return Err(Refusal::of_call(5));
     }
+    write_contents(r, constants, class, out);
+    Ok(())
 }
 
 // The matrix of contents.
-pub fn matrix_of(registers: u32, constants: &[u32], contents: &[u32], out: &mut [u8]) -> Written
+pub fn matrix_of(
+    registers: u32,
+    constants: &[u32],
+    contents: &[u32],
+    out: &mut [u8],
+) -> Result<(), Refusal>
     ensures { let cs : List ℕ = constants.now in
         let v : List ℕ = contents.now in
         let before : List ℕ = out.old in
@@ -229,21 +173,25 @@ pub fn matrix_of(registers: u32, constants: &[u32], contents: &[u32], out: &mut 
         × (after ≡ written_of j before)
         × MatrixMeans registers cs v result before after }
 {
-    let fits = (contents.len() == registers as usize) & (square(registers) <= out.len());
-    let tests = test_lists(fits, registers, constants);
-    match tests {
-        Written::Refused(r) => Written::Refused(r),
-        Written::Done => {
-            let cs = pair(constants);
-            let list = five(contents);
-            catalogue::matrix_of(cs, constants.len(), list, contents.len(), out);
-            Written::Done
-        }
-    }
+    let fits = contents.len() == registers as usize && square(registers) <= out.len();
+    test_lists(fits, registers, constants)?;
+    catalogue::matrix_of(
+        array_of(constants),
+        constants.len(),
+        array_of(contents),
+        contents.len(),
+        out,
+    );
+    Ok(())
 }
 
 // The matrix of a class.
-pub fn matrix_of_class(registers: u32, constants: u32, class: usize, out: &mut [u8]) -> Written
+pub fn matrix_of_class(
+    registers: u32,
+    constants: u32,
+    class: usize,
+    out: &mut [u8],
+) -> Result<(), Refusal>
     ensures { let before : List ℕ = out.old in
         let after : List ℕ = out.new in
         let j : Judged (List ℕ) = class_matrix_for registers constants class before in
@@ -252,26 +200,18 @@ pub fn matrix_of_class(registers: u32, constants: u32, class: usize, out: &mut [
         × (after ≡ written_of j before)
         × ClassMatrixMeans registers constants class result before after }
 {
+    let r = registers as usize;
     let c = constants as usize;
-    let fits = square(registers) <= out.len();
-    let tests = test_counts(fits, registers, c);
-    match tests {
-        Written::Refused(r) => Written::Refused(r),
-        Written::Done => {
-            let r = registers as usize;
-            let classes = catalogue::class_count(r, c);
-            if classes <= class {
-                return Written::Refused(refusal(5));
-            }
-            let labels = class_list(r, c, class);
-            catalogue::class_matrix(c, labels, r, out);
-            Written::Done
-        }
+    test_counts(square(registers) <= out.len(), registers, c)?;
+    if catalogue::class_count(r, c) <= class {
+        return Err(Refusal::of_call(5));
     }
+    catalogue::class_matrix(c, class_list(r, c, class), r, out);
+    Ok(())
 }
 
 // The class number of a matrix.
-pub fn class_of_matrix(registers: u32, constants: u32, matrix: &[u8]) -> Number
+pub fn class_of_matrix(registers: u32, constants: u32, matrix: &[u8]) -> Result<usize, Refusal>
     ensures { let m : List ℕ = matrix.now in
         let j : Judged ℕ = matrix_class_for registers constants m in
         (result ≡ number_of j)
@@ -279,18 +219,8 @@ pub fn class_of_matrix(registers: u32, constants: u32, matrix: &[u8]) -> Number
         × MatrixClassMeans registers constants m result }
 {
     let c = constants as usize;
-    let fits = matrix.len() == square(registers);
-    let tests = test_counts(fits, registers, c);
-    match tests {
-        Written::Refused(r) => Number::Refused(r),
-        Written::Done => {
-            let found = catalogue::class_of_matrix(matrix, registers as usize, c);
-            match found {
-                catalogue::Found::Class(k) => Number::Is(k),
-                catalogue::Found::NoClass => Number::Refused(refusal(10)),
-            }
-        }
-    }
+    test_counts(matrix.len() == square(registers), registers, c)?;
+    catalogue::class_of_matrix(matrix, registers as usize, c).ok_or(Refusal::of_call(10))
 }
 
 // The contents given back for the class that has a matrix.
@@ -299,7 +229,7 @@ pub fn contents_of_matrix(
     constants: &[u32],
     matrix: &[u8],
     out: &mut [u32],
-) -> Written
+) -> Result<(), Refusal>
     ensures { let cs : List ℕ = constants.now in
         let m : List ℕ = matrix.now in
         let before : List ℕ = out.old in
@@ -311,23 +241,9 @@ pub fn contents_of_matrix(
         × MatrixContentsMean registers cs m result before after }
 {
     let r = registers as usize;
-    let fits = (matrix.len() == square(registers)) & (r <= out.len());
-    let tests = test_lists(fits, registers, constants);
-    match tests {
-        Written::Refused(r) => Written::Refused(r),
-        Written::Done => {
-            let c = constants.len();
-            let found = catalogue::class_of_matrix(matrix, r, c);
-            match found {
-                catalogue::Found::Class(k) => {
-                    let labels = class_list(r, c, k);
-                    let cs = pair(constants);
-                    let list = catalogue::contents_of(cs, c, labels, r);
-                    put(list, r, out);
-                    Written::Done
-                }
-                catalogue::Found::NoClass => Written::Refused(refusal(10)),
-            }
-        }
-    }
+    let fits = matrix.len() == square(registers) && r <= out.len();
+    test_lists(fits, registers, constants)?;
+    let class = catalogue::class_of_matrix(matrix, r, constants.len()).ok_or(Refusal::of_call(10))?;
+    write_contents(r, constants, class, out);
+    Ok(())
 }

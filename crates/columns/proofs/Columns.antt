@@ -5,11 +5,11 @@ use mathlib.Core.Bool.{Bool, true, false, cond, ◌&&◌, not, and-false}
 use mathlib.Core.List.{List, [], ◌∷◌, ◌++◌}
 use mathlib.Core.Path.{◌≡◌, refl, sym, ◌∙◌, ap, ap₂}
 use borrow.Author.Tests.{lt-ltb, ltb-true, ltb-false, eqb-true, eqb-false, eq-eqb, ne_eqb, le-leb}
-use native.Mathlib.Nat.{pow-suc, one-le-pow, le-div_iff_mul-le, div-eq_of_lt, div-div-eq-div-mul, div-one, lt_of_lt_of_le, pow-le-pow_right, mul-zero, mul-suc, add_comm}
+use native.Mathlib.Nat.{pow-suc, one-le-pow, le-div_iff_mul-le, div-eq_of_lt, div-div-eq-div-mul, lt_of_lt_of_le, pow-le-pow_right, mul-zero, mul-suc, add_comm}
 use native.Mathlib.Numerals.{add-one}
 use native.Mathlib.Omega.{arith}
 use lib.Dec.{ltb, eqb}
-use lib.ListN.{length, get_or, set, drop, length-append, drop_of_length-le}
+use lib.ListN.{length, get_or, set, drop, length-append}
 use lib.Seq.{sets, set_comm, drop-cons}
 use Rattle.columns.specs.declared.Sheet.{Sheet}
 use Rattle.columns.specs.declared.Sheet.TheVariants.{Table, Run, Answer, Plain}
@@ -153,18 +153,6 @@ module _ (l₀ l : List ℕ) (at w v i j rest : ℕ) (next : i ≡ suc j) (low :
   pub tens_left : rest / 10 ≡ v / 10 ^ (w - j)
   tens_left = ap (λ x. x / 10) left ∙ div-div-eq-div-mul v (10 ^ (w - i)) 10 ∙ ap (λ n. v / n) (sym (pow-suc 10 (w - i)) ∙ ap (λ n. 10 ^ n) (sym wider))
 
--- before the first, and after the last
-pub columns-begun : (l : List ℕ) (at w v : ℕ) → (l ≡ sets l (at + w) (column (w - w) v)) × (v ≡ v / 10 ^ (w - w))
-columns-begun l at w v =
-    let z : w - w ≡ 0 = omega arith in
-    (ap (λ n. sets l (at + w) (column n v)) (sym z), sym (ap (λ n. v / 10 ^ n) z ∙ div-one v))
-
-pub columns-done : (l₀ l : List ℕ) (at w v i : ℕ) → i ≡ 0 → l ≡ sets l₀ (at + i) (column (w - i) v) → l ≡ sets l₀ at (column w v)
-columns-done l₀ l at w v i z e =
-    let n : at + i ≡ at = omega arith in
-    let k : w - i ≡ w = omega arith in
-    e ∙ ap₂ (λ n k. sets l₀ n (column k v)) n k
-
 -- Numbers, one after another: o is the line with all of them, and those from number i on are still to come
 
 module _ (vs : List ℕ) (w : ℕ → ℕ) where
@@ -185,9 +173,3 @@ module _ (vs : List ℕ) (w : ℕ → ℕ) where
     number_more l o end e =
         let x : ℕ = get_or vs i 0 in
         ap (λ k. sets (sets l end (column (w i) x)) (end + k) rest) (sym (column-length (w i) x)) ∙ sym (sets-append (column (w i) x) rest l end) ∙ ap (sets l end) (sym these) ∙ e
-
-  pub numbers_done : (l o : List ℕ) (end i : ℕ) → length vs ≤ i → sets l end (columns w i (drop i vs)) ≡ o → l ≡ o
-  numbers_done l o end i h e = ap (λ ys. sets l end (columns w i ys)) (sym (drop_of_length-le vs h)) ∙ e
-
-  pub none-left_over : (i : ℕ) → length vs ≤ i → length (columns w i (drop i vs)) ≡ 0
-  none-left_over i h = ap (λ ys. length (columns w i ys)) (drop_of_length-le vs h)

@@ -27,14 +27,15 @@ fn is_identifier(sheet: Sheet, first: u64, i: usize) -> bool
     ensures { result ≡ identifier sheet first i }
 {
     match sheet {
-        Sheet::Table => (first == 2) & (i == 1),
+        Sheet::Table => first == 2 && i == 1,
         Sheet::Run => 3 <= i,
-        Sheet::Answer => (first == 0) & (2 <= i),
+        Sheet::Answer => first == 0 && 2 <= i,
         Sheet::Plain => false,
     }
 }
 
 // How many columns it has.
+#[tactic(auto, unfolding(crate::specs::Widths::width))]
 pub fn width(sheet: Sheet, first: u64, i: usize) -> usize
     ensures { result ≡ width_of sheet first i }
 {
@@ -49,10 +50,11 @@ pub fn width(sheet: Sheet, first: u64, i: usize) -> usize
 fn byte_of(rest: u32, last: bool) -> u8
     ensures { result ≡ cond (eqb rest 0 && not last) 32 (48 + rest % 10) }
 {
-    if (rest == 0) & !last {
-        return 32;
+    if rest == 0 && !last {
+        b' '
+    } else {
+        b'0' + (rest % 10) as u8
     }
-    48 + (rest % 10) as u8
 }
 
 // Writes v in `width` columns from byte `at` on.
@@ -60,12 +62,9 @@ pub fn put_in(line: &mut [u8], at: usize, width: usize, v: u32)
     requires { at + width ≤ length line.old }
     ensures { line.new ≡ sets line.old at (column width v) }
 {
-    let mut i = width;
     let mut rest = v;
-    while 0 < i {
-        let last = i == width;
-        i -= 1;
-        line[at + i] = byte_of(rest, last);
+    for i in (0..width).rev() {
+        line[at + i] = byte_of(rest, i + 1 == width);
         rest /= 10;
     }
 }
@@ -78,36 +77,18 @@ pub fn put(line: &mut [u8], at: usize, v: u32)
     put_in(line, at, 6, v);
 }
 
-fn wide(x: u32) -> u64
-    ensures { result ≡ x }
-{
-    x as u64
-}
-
-// The number with which a line begins.
-fn first_of(numbers: &[u32]) -> u64
-    ensures { result ≡ get_or numbers.now 0 0 }
-{
-    if 0 < numbers.len() {
-        return wide(numbers[0]);
-    }
-    0
-}
-
 // Writes the numbers of a line from byte `at` on; returns where they end.
 pub fn put_numbers(line: &mut [u8], at: usize, sheet: Sheet, numbers: &[u32]) -> usize
     requires { at + length (line_columns sheet numbers.now) ≤ length line.old }
     ensures { (result ≡ at + length (line_columns sheet numbers.now))
         × (line.new ≡ sets line.old at (line_columns sheet numbers.now)) }
 {
-    let first = first_of(numbers);
-    let mut i = 0;
+    let first = numbers.first().map_or(0, |v| u64::from(*v));
     let mut end = at;
-    while i < numbers.len() {
+    for (i, v) in numbers.iter().enumerate() {
         let columns = width(sheet, first, i);
-        put_in(line, end, columns, numbers[i]);
+        put_in(line, end, columns, *v);
         end += columns;
-        i += 1;
     }
     end
 }

@@ -1,44 +1,30 @@
 -- One turn of the search for parameters.
 -- Assumes nothing.
 use Prim.Native.Nat.{ℕ, suc, ◌+◌, ◌-◌, ◌≤◌, ◌<◌}
-use mathlib.Core.Bool.{Bool, true, false, cond, ◌&&◌}
+use mathlib.Core.Bool.{Bool, true, false, cond}
 use mathlib.Core.List.{List, [], ◌∷◌, ◌++◌, flat_map}
 use mathlib.Core.Option.{Option, none, some}
 use mathlib.Core.Path.{◌≡◌, refl, sym, ap, ◌∙◌}
 use native.Mathlib.Omega.{arith}
 use lib.ListN.{length, get_or, take, drop, set, drop_of_length-le}
-use lib.Seq.{drop-cons, take_all}
-use Rattle.graphs.specs.Lists.{up_from, select, first, eq_list}
+use lib.Seq.{drop-cons}
+use Rattle.graphs.specs.Lists.{up_from, select, first}
 use Rattle.classes.specs.Classes.{noted, labels}
 use Rattle.classes.specs.Contents.{notes, identifiers}
 use Rattle.classes.proofs.Legal.{labels_length}
 use Rattle.moves.specs.Moves.{pool}
 use Rattle.forms.specs.declared.Arc.{Arc}
 use Rattle.lists.specs.Arrays.{padded}
-use Rattle.forms.specs.Slots.{holds_all, values_from}
-use Rattle.concretization.specs.declared.Found.{Found}
+use Rattle.forms.specs.Slots.{values_from}
+use Rattle.std.specs.Prelude.{Option as Given, Some, None}
 use Rattle.concretization.specs.Parameters.{worth, tries, suits, found_of, label_slots, wanted_of, sought, new_contents}
-use Rattle.lists.proofs.Arrays.{padded-length, padded-take}
-
--- One list of values
-
-module _ (x : Arc) (cs wanted vals : List ℕ) where
-  pub judge-guard : holds_all x.guard vals ≡ false → found_of none ≡ found_of (first (suits x cs wanted) (vals ∷ []))
-  judge-guard h = ap (λ b. found_of (cond (b && eq_list (padded 5 (labels cs (values_from vals x.source 0 x.sets))) wanted) (some vals) none)) (sym h)
-
-  pub judge-labels : (b : Bool) {ls : List ℕ} → length wanted ≡ 5 → holds_all x.guard vals ≡ true → ls ≡ padded 5 (labels cs (values_from vals x.source 0 x.sets))
-      → eq_list (take (length wanted) ls) wanted ≡ b → found_of (cond b (some vals) none) ≡ found_of (first (suits x cs wanted) (vals ∷ []))
-  judge-labels b {ls} n h l e =
-      let five : length ls ≡ 5 = ap length l ∙ padded-length 5 _ in
-      ap (λ d. found_of (cond d (some vals) none)) (sym e ∙ ap (λ z. eq_list z wanted) (take_all (length wanted) ls (omega arith) ∙ l))
-      ∙ ap (λ d. found_of (cond (d && eq_list (padded 5 (labels cs (values_from vals x.source 0 x.sets))) wanted) (some vals) none)) (sym h)
+use Rattle.lists.proofs.Arrays.{padded-take}
 
 -- What a search says
 
-pub found_none : (o : Option (List ℕ)) (r : Found) → r ≡ found_of o → r.found ≡ false → o ≡ none
-unfolding found_of
-found_none none r e h = refl
-found_none (some v) r e h = let z : true ≡ false = sym (ap (λ f. f.found) e) ∙ h in cc
+found_none : (o : Option (List ℕ)) → None ≡ found_of o → o ≡ none
+found_none none e = refl
+found_none (some v) e = cc
 
 module _ {A : Type 0} (p : A → Bool) where
   pub first-none : (us vs : List A) → first p us ≡ none → first p (us ++ vs) ≡ first p vs
@@ -57,13 +43,12 @@ module _ {A : Type 0} (p : A → Bool) where
       go true q e h = ap (λ d. cond d (some u) (first p (us ++ vs))) q ∙ e
       go false q e h = ap (λ d. cond d (some u) (first p (us ++ vs))) q ∙ h e
 
-pub found_some : (p : List ℕ → Bool) (us vs : List (List ℕ)) (r : Found) → r ≡ found_of (first p us) → r.found ≡ true → r ≡ found_of (first p (us ++ vs))
-unfolding found_of
-found_some p us vs r e h = go (first p us) refl
+found_some : (p : List ℕ → Bool) (us vs : List (List ℕ)) (r : List ℕ) → Some r ≡ found_of (first p us) → Some r ≡ found_of (first p (us ++ vs))
+found_some p us vs r e = go (first p us) refl e
   where
-    go : (o : Option (List ℕ)) → first p us ≡ o → r ≡ found_of (first p (us ++ vs))
-    go none q = let z : false ≡ true = sym (ap (λ f. f.found) (e ∙ ap found_of q)) ∙ h in cc
-    go (some a) q = e ∙ ap found_of (q ∙ sym (first_some p us vs q))
+    go : (o : Option (List ℕ)) → first p us ≡ o → Some r ≡ found_of o → Some r ≡ found_of (first p (us ++ vs))
+    go none q e = cc
+    go (some a) q e = e ∙ ap found_of (sym (first_some p us vs q))
 
 -- The choices for one parameter
 
@@ -90,19 +75,19 @@ module _ (xs : List ℕ) (m at : ℕ) (seen vals : List ℕ) where
     pub turn_skip : (p : List ℕ → Bool) → worth seen (get_or xs i 0) ≡ false → first p (tried_with xs m at seen vals (drop i xs)) ≡ first p (tried_with xs m at seen vals (drop (i + 1) xs))
     turn_skip p e = ap (first p) (at_turn false e)
 
-    pub turn-fails : (p : List ℕ → Bool) (r : Found) → worth seen (get_or xs i 0) ≡ true → r ≡ found_of (first p (tries xs m (suc at) (noted seen (get_or xs i 0)) (set vals at (get_or xs i 0)))) → r.found ≡ false
+    pub turn-fails : (p : List ℕ → Bool) → worth seen (get_or xs i 0) ≡ true → None ≡ found_of (first p (tries xs m (suc at) (noted seen (get_or xs i 0)) (set vals at (get_or xs i 0))))
         → first p (tried_with xs m at seen vals (drop i xs)) ≡ first p (tried_with xs m at seen vals (drop (i + 1) xs))
     unfolding block
-    turn-fails p r e q f =
+    turn-fails p e q =
         let us = tries xs m (suc at) (noted seen (get_or xs i 0)) (set vals at (get_or xs i 0)) in
-        ap (first p) (at_turn true e) ∙ first-none p us (tried_with xs m at seen vals (drop (i + 1) xs)) (found_none (first p us) r q f)
+        ap (first p) (at_turn true e) ∙ first-none p us (tried_with xs m at seen vals (drop (i + 1) xs)) (found_none (first p us) q)
 
-    pub turn_finds : (p : List ℕ → Bool) (r : Found) → worth seen (get_or xs i 0) ≡ true → r ≡ found_of (first p (tries xs m (suc at) (noted seen (get_or xs i 0)) (set vals at (get_or xs i 0)))) → r.found ≡ true
-        → r ≡ found_of (first p (tried_with xs m at seen vals (drop i xs)))
+    pub turn_finds : (p : List ℕ → Bool) (r : List ℕ) → worth seen (get_or xs i 0) ≡ true → Some r ≡ found_of (first p (tries xs m (suc at) (noted seen (get_or xs i 0)) (set vals at (get_or xs i 0))))
+        → Some r ≡ found_of (first p (tried_with xs m at seen vals (drop i xs)))
     unfolding block
-    turn_finds p r e q f =
+    turn_finds p r e q =
         let us = tries xs m (suc at) (noted seen (get_or xs i 0)) (set vals at (get_or xs i 0)) in
-        found_some p us (tried_with xs m at seen vals (drop (i + 1) xs)) r q f ∙ ap (λ l. found_of (first p l)) (sym (at_turn true e))
+        found_some p us (tried_with xs m at seen vals (drop (i + 1) xs)) r q ∙ ap (λ l. found_of (first p l)) (sym (at_turn true e))
 
   pub turn-done : (p : List ℕ → Bool) (i : ℕ) → length xs ≤ i → first p (tried_with xs m at seen vals (drop i xs)) ≡ none
   unfolding flat_map
@@ -116,13 +101,16 @@ pub tries-first : (xs : List ℕ) (n d at : ℕ) (seen vals : List ℕ) → d < 
 unfolding tries
 tries-first xs n d at seen vals h = let z : suc (n - (d + 1)) ≡ n - d = omega arith in ap (λ k. tries xs k at seen vals) z
 
--- the same at the next slot, after the identifier is noted
-pub tries-next : (xs : List ℕ) (m d : ℕ) (seen s vals : List ℕ) → s ≡ seen → tries xs m (7 + (d + 1)) s vals ≡ tries xs m (suc (7 + d)) seen vals
-tries-next xs m d seen s vals e = let z : 7 + (d + 1) ≡ suc (7 + d) = omega arith in ap (λ k. tries xs m k s vals) z ∙ ap (λ k. tries xs m (suc (7 + d)) k vals) e
+-- what a search from the next slot on gives, after the identifier is noted
+pub tried_next : (p : List ℕ → Bool) (xs : List ℕ) (m d : ℕ) (seen s vals : List ℕ) {r : Given (List ℕ)} → s ≡ seen → r ≡ found_of (first p (tries xs m (7 + (d + 1)) s vals))
+    → r ≡ found_of (first p (tries xs m (suc (7 + d)) seen vals))
+tried_next p xs m d seen s vals e h =
+    let z : 7 + (d + 1) ≡ suc (7 + d) = omega arith in
+    h ∙ ap (λ k. found_of (first p (tries xs m k s vals))) z ∙ ap (λ k. found_of (first p (tries xs m (suc (7 + d)) k vals))) e
 
 -- The whole search, and the new contents, with what their parts give put in
 
-pub sought-is : (x : Arc) (cs v vals k : List ℕ) {cs' wanted xs seen vals' : List ℕ} {r : Found} → cs' ≡ cs → wanted ≡ wanted_of x (length cs) k → xs ≡ pool 15 cs → seen ≡ notes cs v → vals' ≡ vals
+pub sought-is : (x : Arc) (cs v vals k : List ℕ) {cs' wanted xs seen vals' : List ℕ} {r : Given (List ℕ)} → cs' ≡ cs → wanted ≡ wanted_of x (length cs) k → xs ≡ pool 15 cs → seen ≡ notes cs v → vals' ≡ vals
     → r ≡ found_of (first (suits x cs' wanted) (tries xs (x.params - 0) 7 seen vals')) → r ≡ found_of (sought x cs v vals k)
 sought-is x cs v vals k {cs'} {wanted} {xs} {seen} {vals'} a b c d e h =
     let z : x.params - 0 ≡ x.params = omega arith in

@@ -1,6 +1,6 @@
 -- The search for parameters: which lists are tried, in which order, and when one passes.
 -- Assumes nothing.
-use Rattle.std.specs.Prelude.{ℕ, zero, suc, Bool, true, false, ◌&&◌, cond, eqb, ltb, length, get_or, take, set}
+use Rattle.std.specs.Prelude.{ℕ, zero, suc, Bool, true, ◌&&◌, cond, eqb, ltb, length, get_or, take, set, Option as Given, Some, None}
 use mathlib.Core.List.{List, [], ◌∷◌, flat_map}
 use Rattle.std.proofs.Math.Option.{Option, none, some}
 use Rattle.graphs.specs.Lists.{up_from, eq_list, select, first}
@@ -10,7 +10,6 @@ use Rattle.moves.specs.Moves.{pool}
 use Rattle.forms.specs.declared.Arc.{Arc}
 use Rattle.lists.specs.Arrays.{padded}
 use Rattle.forms.specs.Slots.{holds_all, values_from}
-use Rattle.concretization.specs.declared.Found.{Found}
 
 -- x is known, or it is the smallest identifier that is not
 abbrev pub worth : List ℕ → ℕ → Bool
@@ -25,10 +24,10 @@ tries xs (suc n) at seen vals = flat_map (λ x. tries xs n (suc at) (noted seen 
 abbrev pub suits : Arc → List ℕ → List ℕ → List ℕ → Bool
 suits x cs wanted vals = holds_all x.guard vals && eq_list (padded 5 (labels cs (values_from vals x.source 0 x.sets))) wanted
 
--- what a search gives back: the values with the parameters in their slots, or zeros
-unfoldable pub found_of : Option (List ℕ) → Found
-found_of none = record { found = false; vals = 0 ∷ 0 ∷ 0 ∷ 0 ∷ 0 ∷ 0 ∷ 0 ∷ 0 ∷ 0 ∷ 0 ∷ [] }
-found_of (some vals) = record { found = true; vals = vals }
+-- what a search gives back: the values with the parameters in their slots
+abbrev pub found_of : Option (List ℕ) → Given (List ℕ)
+found_of none = None
+found_of (some vals) = Some vals
 
 -- constants and contents in their slots, no parameters yet
 abbrev pub slots_of : List ℕ → List ℕ → List ℕ

@@ -6,9 +6,8 @@ ghost use Rattle.std.proofs.Math.Seq.{paste};
 ghost use Rattle.classes.specs.Contents.{contents};
 ghost use Rattle.automata.specs.Runs.{Move, after};
 ghost use Rattle.automata.specs.Configurations.{classes};
-ghost use Rattle.automata.specs.ConfigurationGraph.{numbered, rows};
+ghost use Rattle.automata.specs.ConfigurationGraph.{numbered};
 ghost use Rattle.moves.specs.Moves.{smallest};
-ghost use Rattle.moves.specs.PathMoves.{start_contents};
 ghost use Rattle.automata.specs.Automaton.{Automaton};
 ghost use Rattle.forms.specs.FormAutomaton.{automaton_of};
 ghost use Rattle.lists.specs.Arrays.{padded};
@@ -17,32 +16,8 @@ ghost use Rattle.replay.specs.RunForm.{flat_move, flat_run};
 ghost use Rattle.concretization.specs.RunLines.{slotted, moment_line, run_lines};
 ghost use Rattle.concretization.specs.PathRuns.{moves_put, lines_put, stand_of, state_of, Leaving, moves_from, Going, path_contents, path_moves, Pathed};
 
-use crate::{Stand, smallest_move};
-
-// The labels of class k; zeros after them.
-fn class_row(form: &[u32], cat: &[u8], n: usize, k: usize) -> [u8; 5]
-    requires { Lent form.now cat.now n × (k < n) }
-    ensures { result ≡ padded 5 (get_or (classes (automaton_of form.now)) k []) }
-{
-    let i = 5 * k;
-    [cat[i], cat[i + 1], cat[i + 2], cat[i + 3], cat[i + 4]]
-}
-
-// The labels of the class of a configuration.
-fn node_labels(form: &[u32], cat: &[u8], n: usize, node: usize) -> [u8; 5]
-    requires { Lent form.now cat.now n × (node < length (rows (automaton_of form.now))) }
-    ensures { result ≡ padded 5 (numbered (automaton_of form.now) node).class }
-{
-    class_row(form, cat, n, node % n)
-}
-
-// The location of a configuration.
-fn node_location(form: &[u32], cat: &[u8], n: usize, node: usize) -> u32
-    requires { Lent form.now cat.now n × (node < length (rows (automaton_of form.now))) }
-    ensures { result ≡ (numbered (automaton_of form.now) node).location }
-{
-    (node / n + 1) as u32
-}
+use crate::{Configurations, smallest_move};
+use replay::{Stand, Step};
 
 // A line of the printout: a moment, its transition, its location, the first r contents and the first p parameters.
 fn line(
@@ -65,75 +40,73 @@ fn line(
 }
 
 // A move in the replayer's form.
-fn nine(arc: u32, params: [u32; 3], next: [u32; 5]) -> [u32; 9]
-    ensures { result ≡ arc ∷ (params ++ next) }
+fn nine(m: Step) -> [u32; 9]
+    ensures { result ≡ m.arc ∷ (m.params ++ m.next) }
 {
     [
-        arc, params[0], params[1], params[2], next[0], next[1], next[2], next[3], next[4],
+        m.arc,
+        m.params[0],
+        m.params[1],
+        m.params[2],
+        m.next[0],
+        m.next[1],
+        m.next[2],
+        m.next[3],
+        m.next[4],
     ]
 }
 
 // Move j of the run, from 0: the smallest from where it stands to the configuration. Returns where the run stands then.
 fn write_step(
-    form: &[u32],
-    cat: &[u8],
-    n: usize,
+    nodes: &Configurations,
     node: usize,
     j: usize,
     here: Stand,
     run: &mut [u32],
     lines: &mut [u32],
 ) -> Stand
-    requires { Lent form.now cat.now n × Leaving (automaton_of form.now) here node × (j < 10784) × (14 + 9 * j ≤ length run.old) × (24 + 12 * j ≤ length lines.old) }
-    ensures { let a : Automaton = automaton_of form.now in
+    requires { Leaving (automaton_of nodes.now.form.now) here node × (j < 10784) × (14 + 9 * j ≤ length run.old) × (24 + 12 * j ≤ length lines.old) }
+    ensures { let a : Automaton = automaton_of nodes.now.form.now in
         ((m : Move) → smallest 15 a (state_of a here) (numbered a node) ≡ some m
         → (result ≡ stand_of (after a m))
         × (run.new ≡ paste run.old (5 + 9 * j) (flat_move m) 9)
         × (lines.new ≡ paste lines.old (12 + 12 * j) (moment_line a (suc j) m) 12)) }
 {
-    let to = node_location(form, cat, n, node);
-    let labels = node_labels(form, cat, n, node);
-    let contents = here.contents;
-    let m = smallest_move(form, here.place, contents, to, labels);
-    let arc = m.arc;
-    let params = m.params;
-    let next = m.next;
-    let flat = nine(arc, params, next);
-    lists::put(run, 5 + 9 * j, &flat);
-    let p = forms::arc_at(form, arc as usize - 1).params as usize;
+    let form = nodes.form;
+    let to = nodes.location(node);
+    let labels = nodes.labels(node);
+    let m = smallest_move(form, here, to, labels).unwrap();
+    lists::put(run, 5 + 9 * j, &nine(m));
+    let p = forms::arc_at(form, m.arc as usize - 1).params as usize;
     let r = forms::registers(form);
-    let shown = line((j + 1) as u32, arc, to, next, r, params, p);
+    let shown = line((j + 1) as u32, m.arc, to, m.next, r, m.params, p);
     lists::put(lines, 12 + 12 * j, &shown);
+    let contents = m.next;
     Stand {
         place: to,
-        contents: next,
+        contents,
     }
 }
 
 // The moves along the path, from where the run stands.
 fn write_moves(
-    form: &[u32],
-    cat: &[u8],
-    n: usize,
+    nodes: &Configurations,
     path: &[u16],
     steps: usize,
     first: Stand,
     run: &mut [u32],
     lines: &mut [u32],
 )
-    requires { Lent form.now cat.now n × Going (automaton_of form.now) path.now steps 0 first × (steps < 10784) × (5 + 9 * steps ≤ length run.old)
-        × (12 + 12 * steps ≤ length lines.old) }
-    ensures { let a : Automaton = automaton_of form.now in
+    requires { Going (automaton_of nodes.now.form.now) path.now steps 0 first × (steps < 10784) × (5 + 9 * steps ≤ length run.old) × (12 + 12 * steps ≤ length lines.old) }
+    ensures { let a : Automaton = automaton_of nodes.now.form.now in
         let ms : List Move = moves_from a path.now steps 0 first in
         (run.new ≡ moves_put 0 ms run.old)
         × (lines.new ≡ lines_put a 0 ms lines.old) }
 {
     let mut here = first;
-    let mut j = 0;
-    while j < steps {
+    for j in 0..steps {
         let node = path[j + 1] as usize;
-        here = write_step(form, cat, n, node, j, here, run, lines);
-        j += 1;
+        here = write_step(nodes, node, j, here, run, lines);
     }
 }
 
@@ -142,19 +115,8 @@ pub fn class_contents(form: &[u32], cat: &[u8], n: usize, k: usize) -> [u32; 5]
     requires { Lent form.now cat.now n × (k < n) }
     ensures { result ≡ padded 5 (contents (automaton_of form.now).constants (get_or (classes (automaton_of form.now)) k [])) }
 {
-    let labels = class_row(form, cat, n, k);
-    let constants = forms::constant_values(form);
-    let c = forms::constants(form);
-    let r = forms::registers(form);
-    catalogue::contents_of(constants, c, labels, r)
-}
-
-// The contents given back for the class of a configuration.
-fn contents_at(form: &[u32], cat: &[u8], n: usize, node: usize) -> [u32; 5]
-    requires { Lent form.now cat.now n × (node < length (rows (automaton_of form.now))) }
-    ensures { result ≡ padded 5 (start_contents (automaton_of form.now) (numbered (automaton_of form.now) node)) }
-{
-    class_contents(form, cat, n, node % n)
+    let nodes = Configurations { form, cat, n };
+    nodes.class_contents(k)
 }
 
 // The run along a path and its lines: from the contents given back for the class of its first configuration, each step by the smallest move.
@@ -174,15 +136,13 @@ pub fn write_run(
         (run.new ≡ flat_run v ms ++ drop (5 + 9 * steps) run.old)
         × (lines.new ≡ run_lines a v ms ++ drop (12 * suc steps) lines.old) }
 {
-    let contents = contents_at(form, cat, n, path[0] as usize);
+    let nodes = Configurations { form, cat, n };
+    let contents = nodes.contents(path[0] as usize);
     lists::put(run, 0, &contents);
     let place = forms::start(form) as u32;
     let r = forms::registers(form);
     let shown = line(0, 0, place, contents, r, [0, 0, 0], 0);
     lists::put(lines, 0, &shown);
-    let first = Stand {
-        place: place,
-        contents: contents,
-    };
-    write_moves(form, cat, n, path, steps, first, run, lines);
+    let first = Stand { place, contents };
+    write_moves(&nodes, path, steps, first, run, lines);
 }

@@ -11,9 +11,8 @@ use lib.Dec.{leb, eqb}
 use lib.ListN.{length, get_or, take, drop, length-append, length-drop}
 use Rattle.columns.specs.declared.Sheet.{Sheet}
 use Rattle.columns.proofs.Columns.{width_is}
-use Rattle.fields.specs.Format.{glyph_of, on_digit, digits_from, on_field, field, field_in, next_width, on_number, fields_after, fields}
-use Rattle.fields.specs.declared.Glyph.{Glyph}
-use Rattle.fields.specs.declared.Glyph.TheVariants.{Blank, Digit, Other}
+use Rattle.fields.specs.Format.{Glyph, glyph_of, on_digit, digits_from, on_field, field, field_in, next_width, on_number, fields_after, fields}
+use Rattle.fields.specs.Format.Glyph.{Blank, Digit, Other}
 use Rattle.fields.proofs.LineParts.{digit_low}
 
 pub no_number_lem : {A : Type 0} {B : Type 0} {w : B} → none ≡ some w → A

@@ -1,26 +1,26 @@
 -- Reading line after line gives what `LineFiles.read_file` says (`read-long`, `read-onward`, `onward-end`, `onward_open`, `onward-accepted`, `onward-refused`), and what
 -- holds of every file that is accepted or refused follows from the rules for a line (`file_keeps`, `file_numbers`).
 -- Assumes nothing.
-use Prim.Native.Nat.{ℕ, suc, ◌+◌, ◌*◌, ◌-◌, ◌≤◌, ◌<◌}
+use Prim.Native.Nat.{ℕ, suc, ◌+◌, ◌*◌, ◌≤◌, ◌<◌}
 use native.Mathlib.Omega.{arith}
 use borrow.Author.Tests.{le-ltb, lt-ltb, ltb-false, eqb-true, eq-eqb, ne_eqb}
 use lib.Dec.{eqb, ltb}
-use lib.ListN.{length, take, drop, length-drop, drop_of_length-le}
-use lib.Seq.{drop-drop}
+use lib.ListN.{length}
 use mathlib.Core.Logic.{◌≢◌}
-use mathlib.Core.Path.{◌≡◌, refl, sym, ◌∙◌, ap, ap₂, subst}
+use mathlib.Core.Path.{◌≡◌, refl, sym, ◌∙◌, ap, subst}
 use mathlib.Core.List.{List, [], ◌∷◌}
 use mathlib.Core.Bool.{Bool, true, false, cond}
 use mathlib.Core.Option.{Option, some, none}
-use Rattle.refusals.specs.Judged.{Judged, refusal}
+use Rattle.refusals.specs.Judged.{Judged, refusal, verdict}
+use Rattle.refusals.proofs.Verdicts.{verdict-Ok, verdict-Err}
+use Rattle.std.specs.Prelude.{Ok, Err}
 use Rattle.refusals.specs.Judged.Judged.{accepted, refused}
 use Rattle.refusals.specs.declared.Refusal.{Refusal}
 use Rattle.lists.specs.Arrays.{padded}
 use Rattle.fields.specs.Format.{fields, onto, pieces}
 use Rattle.fields.specs.LineFiles.{Rules, row_of, judge_line, judged, read_lines, read_file}
-use Rattle.fields.specs.LineRead.{part, count_of, Held, judge_read}
-use Rattle.fields.specs.declared.Line.{Line}
-use Rattle.fields.proofs.LineParts.{piece_front, piece_last, piece_next}
+use Rattle.fields.specs.LineRead.{FirstLine, count_of, Held, judge_read}
+use Rattle.std.specs.Prelude as std
 use Rattle.fields.proofs.Digits.{fields-least}
 
 pub not-accepted : {A S : Type 0} (x : Refusal) (u : S) → refused x ≡ accepted u → A
@@ -49,7 +49,7 @@ Numbered P (accepted s) = Unit {0}
 Numbered P (refused x) = P x.number
 
 -- a line that is read is judged as the line is, and its row is the line's where it is not refused
-judge-is : (judge : ℕ → List ℕ → ℕ) (o : Option (List ℕ)) (l : Line) (row : List ℕ) → l ≡ count_of o → Held o row → judge_read judge l row ≡ judge_line judge o
+judge-is : (judge : ℕ → List ℕ → ℕ) (o : Option (List ℕ)) (l : std.Option ℕ) (row : List ℕ) → l ≡ count_of o → Held o row → judge_read judge l row ≡ judge_line judge o
 judge-is judge none l row e h = rw e
 judge-is judge (some fs) l row e h = rw (e, h)
 
@@ -59,63 +59,59 @@ row_is judge (some fs) row h z = h
 
 module _ {S : Type 0} (r : Rules S) where
   module _ (file : ℕ) where
-    -- Line after line, from the byte i of a file on
+    -- Line after line, from n lines and the state s on
 
-    abbrev pub onward : List ℕ → ℕ → S → ℕ → Judged S
-    onward bytes n s i = read_lines r file n s (pieces (drop i bytes)).0 (pieces (drop i bytes)).1
+    abbrev pub onward : ℕ → S → List ℕ → Judged S
+    onward n s bytes = read_lines r file n s (pieces bytes).0 (pieces bytes).1
 
     module _ (bytes : List ℕ) (limit : ℕ) (s : S) where
       pub read-long : limit < length bytes → read_file r file limit s bytes ≡ refused (refusal 1 file 0)
       unfolding read_file
       read-long h = simp (lt-ltb limit (length bytes) h)
 
-      pub read-onward : length bytes ≤ limit → read_file r file limit s bytes ≡ onward bytes 0 s 0
+      pub read-onward : length bytes ≤ limit → read_file r file limit s bytes ≡ onward 0 s bytes
       unfolding read_file
       read-onward h = simp (le-ltb limit (length bytes) h)
 
-    module _ (bytes : List ℕ) (n : ℕ) (s : S) (i : ℕ) where
+    module _ (n : ℕ) (s : S) (bytes : List ℕ) where
       -- at the end of the file
-      pub onward-end : length bytes ≤ i → onward bytes n s i ≡ cond (r.complete s) (accepted s) (refused (refusal 2 file (n + 1)))
-      onward-end h = rw (drop_of_length-le bytes {i = i} h)
+      pub onward-end : length bytes ≡ 0 → onward n s bytes ≡ cond (r.complete s) (accepted s) (refused (refusal 2 file (n + 1)))
+      onward-end h = go bytes h
+        where
+          go : (l : List ℕ) → length l ≡ 0 → onward n s l ≡ cond (r.complete s) (accepted s) (refused (refusal 2 file (n + 1)))
+          go [] h = refl
+          go (b ∷ l) h = absurd (omega arith)
 
-      module _ (e : ℕ) (is : e ≡ i + length (pieces (drop i bytes)).0) where
-        -- a line that has no byte 10
-        pub onward_open : i < length bytes → length bytes ≤ e → onward bytes n s i ≡ refused (refusal 2 file (n + 1))
-        onward_open h k =
-            let size = length-drop i bytes in
-            let z : length (drop i bytes) ≤ length (pieces (drop i bytes)).0 = omega (arith, size) in
-            rw (piece_last (drop i bytes) z) (go (pieces (drop i bytes)).0 (omega (arith, size)))
-          where
-            go : (l : List ℕ) → 0 < length l → read_lines r file n s l [] ≡ refused (refusal 2 file (n + 1))
-            go [] h = absurd (omega arith)
-            go (b ∷ l) h = refl
+      -- a line that has no byte 10
+      pub onward_open : length bytes ≢ 0 → pieces bytes ≡ (bytes, []) → onward n s bytes ≡ refused (refusal 2 file (n + 1))
+      onward_open h e = rw e (go bytes h)
+        where
+          go : (l : List ℕ) → length l ≢ 0 → read_lines r file n s l [] ≡ refused (refusal 2 file (n + 1))
+          go [] h = absurd (h refl)
+          go (b ∷ l) h = refl
 
+      module _ (line after : List ℕ) (is : FirstLine bytes line after) where
         -- a whole line
-        pub onward-line : e < length bytes → let o : Option (List ℕ) = fields r.sheet 6 (part bytes i e) in
-            onward bytes n s i ≡ judged file (n + 1) (judge_line (r.judge s) o) (onward bytes (n + 1) (r.accept s (row_of o)) (e + 1))
-        onward-line h =
-            let m : ℕ = length (pieces (drop i bytes)).0 in
-            let size : m ≡ e - i = omega arith in
-            let after : i + suc m ≡ e + 1 = omega arith in
-            let front : (pieces (drop i bytes)).0 ≡ part bytes i e = piece_front (drop i bytes) ∙ ap (λ k. take k (drop i bytes)) size in
-            let rest : drop (suc m) (drop i bytes) ≡ drop (e + 1) bytes = drop-drop (suc m) i bytes ∙ ap (λ k. drop k bytes) after in
-            let next = piece_next (drop i bytes) (omega (arith, length-drop i bytes)) ∙ ap (λ l. (pieces l).0 ∷ (pieces l).1) rest in
-            ap₂ (λ l ls. read_lines r file n s l ls) front next
+        pub onward-line : let o : Option (List ℕ) = fields r.sheet 6 line in
+            onward n s bytes ≡ judged file (n + 1) (judge_line (r.judge s) o) (onward (n + 1) (r.accept s (row_of o)) after)
+        onward-line = rw is
 
-        -- what the code knows of it: the line l and its row as they are read, and the refusal x
-        module _ (h : e < length bytes) (l : Line) (row : List ℕ) (x : ℕ) (count : l ≡ count_of (fields r.sheet 6 (part bytes i e)))
-            (held : Held (fields r.sheet 6 (part bytes i e)) row) (v : x ≡ judge_read (r.judge s) l row) where
-          refusal_is : x ≡ judge_line (r.judge s) (fields r.sheet 6 (part bytes i e))
-          refusal_is = v ∙ judge-is (r.judge s) (fields r.sheet 6 (part bytes i e)) l row count held
+        -- what the code knows of it: the number l of its fields and their row as they are read, and the verdict
+        module _ (l : std.Option ℕ) (row : List ℕ) (count : l ≡ count_of (fields r.sheet 6 line)) (held : Held (fields r.sheet 6 line) row) where
+          judged_is : judge_read (r.judge s) l row ≡ judge_line (r.judge s) (fields r.sheet 6 line)
+          judged_is = judge-is (r.judge s) (fields r.sheet 6 line) l row count held
 
-          pub onward-accepted : x ≡ 0 → onward bytes n s i ≡ onward bytes (n + 1) (r.accept s row) (e + 1)
-          onward-accepted z =
-              let o : Option (List ℕ) = fields r.sheet 6 (part bytes i e) in
-              let same : row ≡ row_of o = row_is (r.judge s) o row held (sym refusal_is ∙ z) in
-              onward-line h ∙ simp (eq-eqb (judge_line (r.judge s) o) 0 (sym refusal_is ∙ z)) (ap (λ f. onward bytes (n + 1) (r.accept s f) (e + 1)) (sym same))
+          pub onward-accepted : (u : Unit {0}) → verdict (judge_read (r.judge s) l row) ≡ Ok u → onward n s bytes ≡ onward (n + 1) (r.accept s row) after
+          onward-accepted u v =
+              let o : Option (List ℕ) = fields r.sheet 6 line in
+              let z : judge_line (r.judge s) o ≡ 0 = sym judged_is ∙ verdict-Ok _ u v in
+              let same : row ≡ row_of o = row_is (r.judge s) o row held z in
+              onward-line ∙ simp (eq-eqb (judge_line (r.judge s) o) 0 z) (ap (λ f. onward (n + 1) (r.accept s f) after) (sym same))
 
-          pub onward-refused : x ≢ 0 → onward bytes n s i ≡ refused (refusal x file (n + 1))
-          onward-refused z = onward-line h ∙ simp (← refusal_is, ne_eqb x 0 z)
+          pub onward-refused : (x : ℕ) → verdict (judge_read (r.judge s) l row) ≡ Err x → onward n s bytes ≡ refused (refusal x file (n + 1))
+          onward-refused x v =
+              let (e, z) = verdict-Err _ x v in
+              onward-line ∙ rw (sym judged_is ∙ e) (simp (ne_eqb x 0 (λ k. z (e ∙ k))))
 
     -- Every file
 

@@ -1,46 +1,15 @@
 -- The bytes of a file from one place up to another, where lines end among them, and what a byte is.
 -- Assumes nothing.
-use Prim.Native.Nat.{ℕ, zero, suc, ◌+◌, ◌-◌, ◌≤◌, ◌<◌}
-use mathlib.Core.Bool.{Bool, true, false, cond}
-use mathlib.Core.List.{List, [], ◌∷◌}
-use mathlib.Core.Logic.{◌≢◌}
-use mathlib.Core.Option.{Option, none}
-use mathlib.Core.Path.{◌≡◌, refl, sym, ◌∙◌, ap, ap₂}
-use native.Mathlib.Nat.{sub-zero, zero-sub, suc-sub-suc}
-use native.Mathlib.Numerals.{add-one}
-use native.Mathlib.Omega.{arith}
-use borrow.Author.Tests.{eq-eqb, ne_eqb, le-leb, lt-leb, leb-true}
-use lib.Dec.{leb, eqb}
-use lib.ListN.{length, get_or, take, drop, length-drop, drop_of_length-le}
-use lib.Seq.{drop-cons, take-take, drop-drop, length-take-le, take-nil}
+use Rattle.std.proofs.Common.{◌≡◌, ◌≢◌, ◌==◌, ℕ, suc, ◌+◌, ◌-◌, ◌≤◌, ◌<◌, Bool, true, false, cond, not, List, [], ◌∷◌, length, take, drop, Some, None, refl, sym, ◌∙◌, ap, ap₂, add-one, arith}
+use Rattle.std.proofs.lemmas.List.{take_all}
+use Rattle.std.specs.List.{position, position_or_len}
+use Rattle.std.specs.Char.{IsAsciiDigit, IsNotAsciiDigit}
+use Rattle.std.proofs.Math.Option.{Option, none}
+use mathlib.Core.Logic.{inl, inr}
+use borrow.Author.Tests.{ne_eqb, le-leb, lt-leb, leb-true, ltb-true, ltb-false}
+use lib.Dec.{leb, eqb, ltb}
 use Rattle.fields.specs.Format.{glyph_of, on_digit, onto, pieces}
-use Rattle.fields.specs.LineRead.{part}
-use Rattle.fields.specs.declared.Glyph.TheVariants.{Blank, Digit, Other}
-
--- Parts
-
-pub part-next : (s : List ℕ) (i j : ℕ) → i < j → j ≤ length s → part s i j ≡ get_or s i 0 ∷ part s (i + 1) j
-part-next s i j h k =
-    let e : j - i ≡ suc (j - (i + 1)) = omega arith in
-    ap₂ (λ n l. take n l) e (drop-cons s i 0 (omega arith)) ∙ ap (λ m. get_or s i 0 ∷ take (j - (i + 1)) (drop m s)) (sym (add-one i))
-
-pub part_none : (s : List ℕ) (i j : ℕ) → j ≤ i → part s i j ≡ []
-part_none s i j h = let e : j - i ≡ 0 = omega arith in rw e
-
-pub part_length : (s : List ℕ) (i j : ℕ) → j ≤ length s → length (part s i j) ≡ j - i
-part_length s i j h = length-take-le (j - i) (drop i s) (omega (arith, length-drop i s))
-
-pub part-take : (s : List ℕ) (i j w : ℕ) → i + w ≤ j → take w (part s i j) ≡ part s i (i + w)
-part-take s i j w h = let e : i + w - i ≡ w = omega arith in take-take w (j - i) (drop i s) (omega arith) ∙ ap (λ n. take n (drop i s)) (sym e)
-
-drop-take : (w n : ℕ) (l : List ℕ) → drop w (take n l) ≡ take (n - w) (drop w l)
-drop-take zero n l = rw (sub-zero n)
-drop-take (suc w) zero l = rw (zero-sub (suc w))
-drop-take (suc w) (suc n) [] = rw (take-nil (suc n - suc w))
-drop-take (suc w) (suc n) (x ∷ l) = drop-take w n l ∙ rw (suc-sub-suc n w)
-
-pub part-drop : (s : List ℕ) (i j w : ℕ) → drop w (part s i j) ≡ part s (i + w) j
-part-drop s i j w = let e : j - i - w ≡ j - (i + w) = omega arith in drop-take w (j - i) (drop i s) ∙ ap₂ (λ n l. take n l) e (drop-drop w i s)
+use Rattle.fields.specs.Format.Glyph.{Blank, Digit, Other}
 
 -- Where lines end
 
@@ -73,39 +42,67 @@ piece_next (b ∷ bs) h = by (eqb b 10) h (piece_next bs)
     by true h rec = refl
     by false h rec = rec (omega arith)
 
--- how long the line that begins here is
-module _ (s : List ℕ) (i : ℕ) where
-  pub end-here : i < length s → get_or s i 0 ≡ 10 → length (pieces (drop i s)).0 ≡ 0
-  end-here h e = rw (drop-cons s i 0 h, eq-eqb _ _ e)
+-- how long a line is: up to its byte 10, or to the end
+length-line : (s : List ℕ) → length (pieces s).0 ≡ position_or_len (λ b. b == 10) s
+length-line [] = refl
+length-line (b ∷ s) = by (b == 10) (length-line s)
+  where
+    by : (k : Bool) → length (pieces s).0 ≡ position_or_len (λ b. b == 10) s → length (onto k b (pieces s)).0 ≡ cond (not k) (1 + position_or_len (λ b. b == 10) s) 0
+    by true e = refl
+    by false e = omega arith
 
-  pub end-next : i < length s → get_or s i 0 ≢ 10 → length (pieces (drop i s)).0 ≡ suc (length (pieces (drop (i + 1) s)).0)
-  end-next h e = rw (drop-cons s i 0 h, ne_eqb _ _ e, add-one i)
+module _ (p : ℕ → Bool) (s : List ℕ) where
+  -- the first byte that passes a test, and the bytes before it; or no byte passes
+  pub found : (n : ℕ) → position p s ≡ Some n → (n < length s) × (position_or_len p s ≡ n)
+  found n e = by (ltb (position_or_len p s) (length s)) refl e
+    where
+      by : (k : Bool) → ltb (position_or_len p s) (length s) ≡ k → cond k (Some (position_or_len p s)) None ≡ Some n → (n < length s) × (position_or_len p s ≡ n)
+      by true z e = let same : position_or_len p s ≡ n = cc in (omega (arith, ltb-true _ _ z), same)
+      by false z e = absurd cc
 
-  pub end_last : length s ≤ i → length (pieces (drop i s)).0 ≡ 0
-  end_last h = rw (drop_of_length-le s {i = i} h)
+  pub found_none : position p s ≡ None → length s ≤ position_or_len p s
+  found_none e = by (ltb (position_or_len p s) (length s)) refl e
+    where
+      by : (k : Bool) → ltb (position_or_len p s) (length s) ≡ k → cond k (Some (position_or_len p s)) None ≡ None → length s ≤ position_or_len p s
+      by true z e = absurd cc
+      by false z e = ltb-false _ _ z
+
+pub line_alone : (s : List ℕ) → position (λ b. b == 10) s ≡ None → pieces s ≡ (s, [])
+line_alone s e =
+    let long : length s ≤ length (pieces s).0 = omega (arith, length-line s, found_none (λ b. b == 10) s e) in
+    ap₂ (λ l ls. (l, ls)) (piece_front s ∙ take_all (length (pieces s).0) s long) (piece_last s long)
+
+module _ (s : List ℕ) (n : ℕ) (e : position (λ b. b == 10) s ≡ Some n) where
+  pub line_first : pieces s ≡ (take n s, (pieces (drop (n + 1) s)).0 ∷ (pieces (drop (n + 1) s)).1)
+  line_first =
+      let (h, at) = found (λ b. b == 10) s n e in
+      let size : length (pieces s).0 ≡ n = length-line s ∙ at in
+      ap₂ (λ l ls. (l, ls)) (piece_front s ∙ ap (λ m. take m s) size)
+      (piece_next s (omega arith) ∙ ap (λ m. (pieces (drop m s)).0 ∷ (pieces (drop m s)).1) (ap suc size ∙ sym (add-one n)))
+
+  pub line_within : n < length s
+  line_within = (found (λ b. b == 10) s n e).0
 
 -- What a byte is
 
-pub glyph_low : (b : ℕ) → b < 48 → b ≢ 32 → glyph_of b ≡ Other
+pub glyph_other : (b : ℕ) → IsNotAsciiDigit b → b ≢ 32 → glyph_of b ≡ Other
 unfolding glyph_of
-glyph_low b h e = simp (ne_eqb b 32 e, lt-leb 48 b h)
+glyph_other b (inl h) e = simp (ne_eqb b 32 e, lt-leb 48 b h)
+glyph_other b (inr h) e = let k : 48 ≤ b = omega arith in simp (ne_eqb b 32 e, le-leb 48 b k, lt-leb b 57 h)
 
-pub glyph_high : (b : ℕ) → 57 < b → glyph_of b ≡ Other
+pub glyph_digit : (b : ℕ) → IsAsciiDigit b → glyph_of b ≡ Digit (b - 48)
 unfolding glyph_of
-glyph_high b h = let n : b ≢ 32 = λ e. omega arith in let k : 48 ≤ b = omega arith in simp (ne_eqb b 32 n, le-leb 48 b k, lt-leb b 57 h)
-
-pub glyph_digit : (b : ℕ) → 48 ≤ b → b ≤ 57 → glyph_of b ≡ Digit (b - 48)
-unfolding glyph_of
-glyph_digit b h k = let n : b ≢ 32 = λ e. omega arith in simp (ne_eqb b 32 n, le-leb 48 b h, le-leb b 57 k)
+glyph_digit b (h, k) = let n : b ≢ 32 = λ e. omega arith in simp (ne_eqb b 32 n, le-leb 48 b h, le-leb b 57 k)
 
 -- no digit
-pub stop-low : (b v : ℕ) (more : ℕ → Option ℕ) → b < 48 → on_digit (glyph_of b) v more ≡ none
+pub stop : (b v : ℕ) (more : ℕ → Option ℕ) → IsNotAsciiDigit b → on_digit (glyph_of b) v more ≡ none
 unfolding glyph_of
-stop-low b v more h = simp (lt-leb 48 b h) (by (eqb b 32))
+stop b v more (inl h) = simp (lt-leb 48 b h) (by (eqb b 32))
   where
     by : (k : Bool) → on_digit (cond k Blank Other) v more ≡ none
     by true = refl
     by false = refl
+stop b v more (inr h) = let n : b ≢ 32 = λ e. omega arith in rw (glyph_other b (inr h) n)
 
 low : (p q r : Bool) (b d : ℕ) → leb b 57 ≡ r → cond p Blank (cond q (cond r (Digit (b - 48)) Other) Other) ≡ Digit d → d ≤ 9
 low true q r b d h e = let z : ◌≡◌ {A = ℕ} 0 1 = cc in omega arith

@@ -3,8 +3,12 @@ use Rattle.std.specs.Prelude.{ℕ, zero, suc, ◌+◌, ◌*◌, ◌-◌, List, [
 use Rattle.std.proofs.Math.Option.{Option, some, none}
 use Rattle.columns.specs.declared.Sheet.{Sheet}
 use Rattle.columns.specs.Widths.{width}
-use Rattle.fields.specs.declared.Glyph.{Glyph}
-use Rattle.fields.specs.declared.Glyph.TheVariants.{Blank, Digit, Other}
+
+-- what a byte of a line is
+pub data Glyph : Type 0 where
+  Blank : Glyph
+  Digit : ℕ → Glyph
+  Other : Glyph
 
 -- byte 32 is a blank; bytes 48 to 57 are the digits 0 to 9
 unfoldable pub glyph_of : ℕ → Glyph

@@ -8,3 +8,4 @@ pub mod KindTable
 pub mod LentNumbers
 pub mod QuestionRows
 pub mod Accessors
+pub mod Ranges

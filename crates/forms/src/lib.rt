@@ -5,7 +5,7 @@
 
 mod rows;
 
-ghost use Rattle.std.specs.Prelude.{◌≡◌, map, ℕ, ◌+◌, ◌*◌, ◌<◌, ◌≤◌, T, eqb, length, get_or, take};
+ghost use Rattle.std.specs.Prelude.{◌≡◌, ◌+◌, ◌*◌, ◌<◌, ◌≤◌, T, eqb, length, get_or, take};
 ghost use Rattle.graphs.specs.Lists.{all_of};
 ghost use Rattle.automata.specs.Automaton.{arity};
 ghost use Rattle.automata.specs.WellFormed.{constant_count, fits_condition, fits_assignment};
@@ -14,7 +14,7 @@ ghost use Rattle.forms.specs.TableForm.{row_count, form_length, arity_row, cell,
 ghost use Rattle.forms.specs.FormAutomaton.{term_of, automaton_of, target_of};
 ghost use Rattle.forms.specs.Readable.{Readable};
 ghost use Rattle.forms.specs.ClassLabels.{values_at};
-ghost use Rattle.forms.specs.Shapes.{shape, shape_of};
+ghost use Rattle.forms.specs.Shapes.{shape_of};
 ghost use Rattle.forms.specs.Slots.{slot_of, flag, guard_of, conditions_from, ConditionFits, FitsGuard, guard_with, holds_at, holds_all, sets_of, assignments_from, AssignmentFits, sets_with, arc_of};
 
 use crate::Operand::*;
@@ -69,45 +69,33 @@ pub const QUESTION_LENGTH: usize = 96;
 
 pub type Question = [u32; QUESTION_LENGTH];
 
-fn wide(n: u32) -> usize
-    ensures { result ≡ n }
-{
-    n as usize
-}
-
-fn label(x: u8) -> u32
-    ensures { result ≡ x }
-{
-    x as u32
-}
-
 // How many registers, constants, locations and transitions the table has.
 pub fn registers(form: &[u32]) -> usize
     requires { Readable form.now }
     ensures { (result ≡ (automaton_of form.now).registers) × (result ≤ 5) }
 {
-    wide(form[REGISTERS])
+    form[REGISTERS] as usize
 }
 
 pub fn constants(form: &[u32]) -> usize
     requires { Readable form.now }
     ensures { (result ≡ constant_count (automaton_of form.now)) × (result ≤ 2) }
 {
-    wide(form[CONSTANTS])
+    form[CONSTANTS] as usize
 }
 
 pub fn locations(form: &[u32]) -> usize
     requires { Readable form.now }
     ensures { (result ≡ (automaton_of form.now).locations) × (1 ≤ result) × (result ≤ 16) }
 {
-    wide(form[LOCATIONS])
+    form[LOCATIONS] as usize
 }
 
 pub fn transitions(form: &[u32]) -> usize
     requires { Readable form.now }
     ensures { (result ≡ length (automaton_of form.now).transitions) × (result ≤ 64) }
 {
-    wide(form[TRANSITIONS])
+    form[TRANSITIONS] as usize
 }
 
 // The constants, in an array of two.
@@ -119,18 +107,20 @@ pub fn constant_values(form: &[u32]) -> [u32; 2]
 }
 
 // The location of a target, or of a table's start: a table's form is that of a target too.
+#[tactic(auto, unfolding(crate::specs::FormAutomaton::target_of))]
 pub fn target_location(form: &[u32]) -> usize
     requires { length form.now ≡ form_length }
     ensures { result ≡ (target_of form.now).location }
 {
-    wide(form[START])
+    form[START] as usize
 }
 
+// Stays: the same number as a target's location, here of a table that can be read, so that its range is promised.
 pub fn start(form: &[u32]) -> usize
     requires { Readable form.now }
     ensures { (result ≡ (automaton_of form.now).start) × (1 ≤ result) × (result ≤ 16) }
 {
-    wide(form[START])
+    form[START] as usize
 }
 
 // The number in this column of the line 6 of transition i, counted from 0.
@@ -138,7 +128,7 @@ fn field(form: &[u32], i: usize, column: usize) -> usize
     requires { (length form.now ≡ form_length) × (i < 64) × (column < 6) }
     ensures { result ≡ cell form.now (transition_row i) column }
 {
-    wide(form[6 * (TRANSITION_ROWS + ROWS_EACH * i) + column])
+    form[6 * (TRANSITION_ROWS + ROWS_EACH * i) + column] as usize
 }
 
 // The location that transition i, counted from 0, leaves, and the one that it enters.
@@ -161,7 +151,7 @@ fn action_arity(form: &[u32], action: usize) -> usize
     requires { (length form.now ≡ form_length) × (action ≤ 16) }
     ensures { result ≡ cell form.now (arity_row action) 1 }
 {
-    wide(form[6 * (ARITY_ROWS + action) + 1])
+    form[6 * (ARITY_ROWS + action) + 1] as usize
 }
 
 // How many parameters transition i takes.
@@ -209,27 +199,22 @@ fn slot(kind: u32, number: u32) -> u8
     ensures { result ≡ slot_of (term_of kind number) }
 {
     let n = number as u8;
-    if kind == 1 {
-        return n + 1;
+    match kind {
+        1 => n + 1,
+        2 => n + 6,
+        _ => n - 1,
     }
-    if kind == 2 {
-        return n + 6;
-    }
-    n - 1
 }
 
 // The number of the relation: 1 for equal, 0 for different.
 fn sign(relation: u32) -> u8
     ensures { result ≡ flag (eqb relation 1) }
 {
-    if relation == 1 {
-        return 1;
-    }
-    0
+    u8::from(relation == 1)
 }
 
 // The guard with the condition of this row, if it holds one.
-fn with_condition(g: Guard, form: &[u32], row: usize) -> Guard
+fn with_condition(mut g: Guard, form: &[u32], row: usize) -> Guard
     requires { (row < row_count) × (length form.now ≡ form_length) × (g.count < 8) × ConditionFits form.now row }
     ensures { result ≡ guard_with g form.now row }
 {
@@ -238,21 +223,11 @@ fn with_condition(g: Guard, form: &[u32], row: usize) -> Guard
         return g;
     }
     let n = g.count as usize;
-    let l = slot(form[at + 1], form[at + 2]);
-    let e = sign(form[at + 3]);
-    let r = slot(form[at + 4], form[at + 5]);
-    let mut left = g.left;
-    let mut equal = g.equal;
-    let mut right = g.right;
-    left[n] = l;
-    equal[n] = e;
-    right[n] = r;
-    Guard {
-        count: g.count + 1,
-        left: left,
-        equal: equal,
-        right: right,
-    }
+    g.left[n] = slot(form[at + 1], form[at + 2]);
+    g.equal[n] = sign(form[at + 3]);
+    g.right[n] = slot(form[at + 4], form[at + 5]);
+    g.count += 1;
+    g
 }
 
 // The conditions in the eight rows from this one on.
@@ -262,14 +237,12 @@ pub fn guard_at(form: &[u32], row: usize) -> Guard
 {
     let mut g = Guard {
         count: 0,
-        left: [0, 0, 0, 0, 0, 0, 0, 0],
-        equal: [0, 0, 0, 0, 0, 0, 0, 0],
-        right: [0, 0, 0, 0, 0, 0, 0, 0],
+        left: [0; 8],
+        equal: [0; 8],
+        right: [0; 8],
     };
-    let mut i = 0;
-    while i < 8 {
+    for i in 0..8 {
         g = with_condition(g, form, row + i);
-        i += 1;
     }
     g
 }
@@ -283,7 +256,7 @@ pub fn target_guard(form: &[u32]) -> Guard
 }
 
 // The assignments with that of this row, if it holds one.
-fn with_set(s: Sets, form: &[u32], row: usize) -> Sets
+fn with_set(mut s: Sets, form: &[u32], row: usize) -> Sets
     requires { (row < row_count) × (length form.now ≡ form_length) × (s.count < 5) × AssignmentFits form.now row }
     ensures { result ≡ sets_with s form.now row }
 {
@@ -292,17 +265,10 @@ fn with_set(s: Sets, form: &[u32], row: usize) -> Sets
         return s;
     }
     let n = s.count as usize;
-    let register = form[at + 1] as u8;
-    let from = slot(form[at + 2], form[at + 3]);
-    let mut source = s.source;
-    let mut target = s.target;
-    source[n] = from;
-    target[n] = register + 1;
-    Sets {
-        count: s.count + 1,
-        source: source,
-        target: target,
-    }
+    s.source[n] = slot(form[at + 2], form[at + 3]);
+    s.target[n] = form[at + 1] as u8 + 1;
+    s.count += 1;
+    s
 }
 
 // The assignments in the five rows from this one on.
@@ -312,13 +278,11 @@ fn sets_at(form: &[u32], row: usize) -> Sets
 {
     let mut s = Sets {
         count: 0,
-        source: [0, 0, 0, 0, 0],
-        target: [0, 0, 0, 0, 0],
+        source: [0; 5],
+        target: [0; 5],
     };
-    let mut i = 0;
-    while i < 5 {
+    for i in 0..5 {
         s = with_set(s, form, row + i);
-        i += 1;
     }
     s
 }
@@ -334,6 +298,7 @@ pub fn arc_at(form: &[u32], i: usize) -> Arc
     let params = parameters(form, i);
     let guard = guard_at(form, GUARD_ROWS + ROWS_EACH * i);
     let s = sets_at(form, ASSIGNMENT_ROWS + ROWS_EACH * i);
+    // Stays: a literal takes an array from a variable, not from a field.
     let source = s.source;
     let target = s.target;
     Arc {
@@ -341,10 +306,10 @@ pub fn arc_at(form: &[u32], i: usize) -> Arc
         action: action as u8,
         to: to as u8,
         params: params as u8,
-        guard: guard,
+        guard,
         sets: s.count,
-        source: source,
-        target: target,
+        source,
+        target,
     }
 }
 
@@ -354,24 +319,26 @@ pub fn class_values(cat: &[u8], k: usize) -> [u32; 10]
     ensures { result ≡ values_at cat.now k }
 {
     let i = 5 * k;
-    let a = label(cat[i]);
-    let b = label(cat[i + 1]);
-    let c = label(cat[i + 2]);
-    let d = label(cat[i + 3]);
-    let e = label(cat[i + 4]);
-    [1, 2, a, b, c, d, e, 0, 0, 0]
+    [
+        1,
+        2,
+        cat[i] as u32,
+        cat[i + 1] as u32,
+        cat[i + 2] as u32,
+        cat[i + 3] as u32,
+        cat[i + 4] as u32,
+        0,
+        0,
+        0,
+    ]
 }
 
 fn condition_holds(vals: &[u32; 10], l: u8, e: u8, r: u8) -> bool
     requires { (l < 10) × (r < 10) }
     ensures { result ≡ holds_at vals.now l e r }
 {
-    let i = l as usize;
-    let j = r as usize;
-    if e == 1 {
-        return vals[i] == vals[j];
-    }
-    vals[i] != vals[j]
+    let equal = vals[l as usize] == vals[r as usize];
+    if e == 1 { equal } else { !equal }
 }
 
 // Whether all conditions hold of the values.
@@ -379,15 +346,8 @@ pub fn holds(g: Guard, vals: &[u32; 10]) -> bool
     requires { FitsGuard g }
     ensures { result ≡ holds_all g vals.now }
 {
-    let n = g.count as usize;
-    let left = g.left;
-    let equal = g.equal;
-    let right = g.right;
-    let mut i = 0;
-    while i < n {
-        if condition_holds(vals, left[i], equal[i], right[i]) {
-            i += 1;
-        } else {
+    for i in 0..g.count as usize {
+        if !condition_holds(vals, g.left[i], g.equal[i], g.right[i]) {
             return false;
         }
     }
@@ -441,36 +401,31 @@ pub struct Shape {
     pub rule: Rule,
 }
 
-fn shaped(first: Use, second: Use, rule: Rule) -> Shape
-    ensures { result ≡ shape first second rule }
-{
-    Shape {
-        first: first,
-        second: second,
-        rule: rule,
-    }
-}
-
 // The shape of a kind, by the one match over the kinds. Not a is not (a and a), kinds 9 to 14 are source 001's abbreviations, and a number that is no kind
 // names nothing and is true.
 pub fn shape_of(kind: u32) -> Shape
     ensures { result ≡ shape_of kind }
 {
-    match kind {
-        1 => shaped(Location, Unused, Plain(At)),
-        2 => shaped(Register, Register, Plain(Equal)),
-        3 => shaped(Register, Constant, Plain(Is)),
-        4 => shaped(Row, Unused, Not(And(First, First))),
-        5 => shaped(Row, Row, Plain(And(First, Second))),
-        6 => shaped(Row, Unused, Plain(Ex(First))),
-        7 => shaped(Row, Row, Plain(Until(First, Second))),
-        8 => shaped(Row, Unused, Plain(Globally(First))),
-        9 => shaped(Row, Row, Not(And(NotFirst, NotSecond))),
-        10 => shaped(Row, Row, Not(And(First, NotSecond))),
-        11 => shaped(Row, Unused, Not(Ex(NotFirst))),
-        12 => shaped(Row, Unused, Plain(Until(True, First))),
-        13 => shaped(Row, Unused, Not(Until(True, NotFirst))),
-        14 => shaped(Row, Unused, Not(Globally(NotFirst))),
-        _ => shaped(Unused, Unused, Plain(And(True, True))),
+    let (first, second, rule) = match kind {
+        1 => (Location, Unused, Plain(At)),
+        2 => (Register, Register, Plain(Equal)),
+        3 => (Register, Constant, Plain(Is)),
+        4 => (Row, Unused, Not(And(First, First))),
+        5 => (Row, Row, Plain(And(First, Second))),
+        6 => (Row, Unused, Plain(Ex(First))),
+        7 => (Row, Row, Plain(Until(First, Second))),
+        8 => (Row, Unused, Plain(Globally(First))),
+        9 => (Row, Row, Not(And(NotFirst, NotSecond))),
+        10 => (Row, Row, Not(And(First, NotSecond))),
+        11 => (Row, Unused, Not(Ex(NotFirst))),
+        12 => (Row, Unused, Plain(Until(True, First))),
+        13 => (Row, Unused, Not(Until(True, NotFirst))),
+        14 => (Row, Unused, Not(Globally(NotFirst))),
+        _ => (Unused, Unused, Plain(And(True, True))),
+    };
+    Shape {
+        first,
+        second,
+        rule,
     }
 }

@@ -1,6 +1,6 @@
 // The rows of a form, read and written by row and column; past the end a number is 0, and nothing is written.
 
-ghost use Rattle.std.specs.Prelude.{◌≡◌, ℕ, ◌^◌, ◌≤◌, ◌<◌, length, get_or, set};
+ghost use Rattle.std.specs.Prelude.{◌≡◌, ◌^◌, ◌≤◌, ◌<◌, length, get_or, set};
 ghost use Rattle.lists.specs.Filling.{filled};
 ghost use Rattle.forms.specs.TableForm.{cell, put};
 ghost use Rattle.automata.specs.Questions.{row};
@@ -12,10 +12,7 @@ pub fn cell(form: &[u32], row: usize, column: usize) -> u32
     ensures { result ≡ cell form.now row column }
 {
     let i = 6 * row + column;
-    if i < form.len() {
-        return form[i];
-    }
-    0
+    form.get(i).copied().unwrap_or(0)
 }
 
 // Writes v at i.
@@ -32,10 +29,8 @@ fn store_all(form: &mut [u32], i: usize, f: &[u32])
     requires { (i ≤ 2 ^ 50) × (length f.now ≤ 6) }
     ensures { form.new ≡ filled form.old i (λ j. get_or f.now j 0) (length f.now) }
 {
-    let mut j = 0;
-    while j < f.len() {
-        store(form, i + j, f[j]);
-        j += 1;
+    for (j, v) in f.iter().enumerate() {
+        store(form, i + j, *v);
     }
 }
 
@@ -51,6 +46,5 @@ pub fn put_row(form: &mut [u32], row: usize, f: [u32; 6])
 pub fn put_question_row(form: &mut [u32], n: u32, k: u32, a: u32, b: u32)
     ensures { form.new ≡ put_row form.old n (row k a b) }
 {
-    let f = [k, a, b];
-    store_all(form, 3 * (n as usize), &f);
+    store_all(form, 3 * (n as usize), &[k, a, b]);
 }

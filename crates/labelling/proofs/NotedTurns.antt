@@ -1,29 +1,47 @@
 -- One turn of each loop.
 -- Assumes nothing.
-use Prim.Native.Nat.{ℕ, zero, suc, ◌+◌, ◌-◌, ◌≤◌, ◌<◌, pred}
-use mathlib.Core.Bool.{Bool, true, false, cond, not}
+use Prim.Native.Nat.{ℕ, zero, suc, ◌+◌, ◌-◌, ◌≤◌, ◌<◌}
+use mathlib.Core.Bool.{Bool, true, false, cond}
 use mathlib.Core.List.{List, [], ◌∷◌, ◌++◌}
 use mathlib.Core.Logic.{◌≢◌}
 use mathlib.Core.Path.{◌≡◌, refl, sym, ap, ◌∙◌}
 use native.Mathlib.Omega.{arith}
 use native.Mathlib.Numerals.{add-one}
-use borrow.Author.Tests.{eq-eqb, ne_eqb}
+use borrow.Author.Tests.{ltb-false, eq-eqb, ne_eqb}
 use lib.Dec.{eqb, ltb}
+use Rattle.std.specs.Prelude.{Some, None}
+use Rattle.std.specs.Option.{unwrap_or}
+use Rattle.std.specs.List.{position_or_len, position as find_position}
+use Rattle.std.proofs.lemmas.List.Recursion.{is_position_or_len}
+use Rattle.classes.proofs.Labels.{position-le}
 use lib.ListN.{length, get_or, take, drop, set, drop_of_length-le}
-use lib.Seq.{drop-cons, take-suc, get_or-take, length-take-le}
+use lib.Seq.{drop-cons, take-suc, length-take-le}
 use Rattle.lists.specs.Arrays.{padded}
 use Rattle.lists.specs.Searches.{first_from}
 use Rattle.lists.proofs.Arrays.{padded_more}
 use Rattle.graphs.specs.Lists.{eq_list}
 use Rattle.classes.specs.Classes.{position, noted, labels}
-use Rattle.classes.specs.Contents.{notes, fresh_from, fresh, identifier, identifiers}
+use Rattle.classes.specs.Contents.{notes, fresh_from, identifier, identifiers}
 use Rattle.classes.proofs.Legal.{notes-le, labels_append, labels_length}
-use Rattle.classes.proofs.Identifiers.{identifier_old, identifier_new, identifiers-length}
-use Rattle.labelling.specs.declared.Seen.{Seen}
-use Rattle.labelling.specs.Noted.{known, seen_of, Tidy, labelled}
-use Rattle.labelling.proofs.Noted.{known-length, made_tidy, made_known}
+use Rattle.classes.proofs.Identifiers.{identifiers-length}
+use Rattle.labelling.proofs.Noted.{take-le}
 
 -- The search for x among the first n of a list
+
+position_is : (x : ℕ) (xs : List ℕ) → position xs x ≡ position_or_len (λ y. eqb y x) xs
+position_is x = is_position_or_len (λ xs. position xs x) (λ y. eqb y x) refl (λ y ys. ap (cond (eqb y x) 0) (let e : suc (position ys x) ≡ 1 + position ys x = omega arith in e))
+
+-- the place that the library's search finds, or else the length
+pub position_found : (x n : ℕ) (xs : List ℕ) → length xs ≡ n → (unwrap_or (find_position (λ y. eqb y x) xs) n ≡ position xs x) × (position xs x ≤ n)
+position_found x n xs e =
+    let le : position xs x ≤ length xs = position-le xs x in
+    (by (ltb (position_or_len (λ y. eqb y x) xs) (length xs)) refl ∙ sym (position_is x xs), omega arith)
+  where
+    by : (b : Bool) → ltb (position_or_len (λ y. eqb y x) xs) (length xs) ≡ b → unwrap_or (cond b (Some (position_or_len (λ y. eqb y x) xs)) None) n ≡ position_or_len (λ y. eqb y x) xs
+    by true d = refl
+    by false d = let h = ltb-false (position_or_len (λ y. eqb y x) xs) (length xs) d in omega (arith, h, position_is x xs, position-le xs x)
+
+-- The same search, place by place
 
 abbrev pub is_at : List ℕ → ℕ → ℕ → Bool
 is_at s x j = eqb (get_or s j 0) x
@@ -42,30 +60,11 @@ first-from s x i (suc n) h =
 pub position_first : (s : List ℕ) (n x : ℕ) → n ≤ length s → first_from (is_at s x) 0 n ≡ position (take n s) x
 position_first s n x h = first-from s x 0 n (omega arith) ∙ omega arith
 
--- The search for the smallest identifier that is not there
-
-abbrev pub is_new : List ℕ → ℕ → Bool
-is_new seen i = not (ltb (position seen i) (length seen))
-
-pub fresh-first : (seen : List ℕ) (i n : ℕ) → first_from (is_new seen) i n ≡ fresh_from seen i n
-unfolding first_from
-fresh-first seen i zero = refl
-fresh-first seen i (suc n) = go (ltb (position seen i) (length seen)) (fresh-first seen (suc i) n)
-  where
-    go : (b : Bool) → first_from (is_new seen) (suc i) n ≡ fresh_from seen (suc i) n → cond (not b) i (first_from (is_new seen) (suc i) n) ≡ cond b (fresh_from seen (suc i) n) i
-    go true e = e
-    go false e = refl
-
--- The identifier of a label
-
-module _ (n : ℕ) (s : Seen) (t : Tidy n s) (x : ℕ) where
-  pub identifier-at : 1 ≤ x → x ≤ s.count → get_or s.ids (x - 1) 0 ≡ identifier (known s) x
-  identifier-at low high =
-      let e : x - 1 ≡ pred x = omega arith in
-      ap (λ j. get_or s.ids j 0) e ∙ sym (get_or-take s.count s.ids (pred x) 0 (omega arith)) ∙ sym (identifier_old (known s) x (omega (arith, known-length n s t)))
-
-  pub identifier-after : s.count < x → fresh (known s) ≡ identifier (known s) x
-  identifier-after h = sym (identifier_new (known s) x (omega (arith, known-length n s t)))
+-- the smallest identifier that is not there is no smaller than the next number
+pub fresh_later : (s : List ℕ) (n x : ℕ) → x < n → ltb (position s x) (length s) ≡ true → fresh_from s (x + 1) (n - (x + 1)) ≡ fresh_from s x (n - x)
+fresh_later s n x h e =
+    let m : n - x ≡ suc (n - (x + 1)) = omega arith in
+    sym (ap (fresh_from s x) m ∙ ap (λ b. cond b (fresh_from s (suc x) (n - (x + 1))) x) e ∙ ap (λ k. fresh_from s k (n - (x + 1))) (sym (add-one x)))
 
 -- The comparison of two lists, entry by entry
 
@@ -99,60 +98,40 @@ take_more xs i h = sym (ap (λ k. take k xs) (add-one i) ∙ take-suc xs i 0 h)
 pub entry_more : {ls : List ℕ} (xs : List ℕ) (i y : ℕ) → ls ≡ padded 5 xs → length xs ≡ i → i < 5 → set ls i y ≡ padded 5 (xs ++ (y ∷ []))
 entry_more xs i y e n h = ap (λ l. set l i y) e ∙ ap (λ k. set (padded 5 xs) k y) (sym n) ∙ padded_more 5 xs y (omega arith)
 
--- the identifiers vs have been noted; seen are those that have a label then
-module _ (s : Seen) (t : Tidy 12 s) (vs : List ℕ) (few : length vs ≤ 4) {seen : Seen} (e : seen ≡ seen_of (notes (known s) vs)) where
-  room : length (notes (known s) vs) ≤ 16
-  room = let f = t.few in omega (arith, notes-le (known s) vs, known-length 12 s t)
-
-  seen-tidy : Tidy 16 seen
-  seen-tidy = made_tidy 16 (notes (known s) vs) room (omega (arith, room)) e
-
-  seen-known : known seen ≡ notes (known s) vs
-  seen-known = made_known 16 (notes (known s) vs) room (omega (arith, room)) e
-
-  seen_more : {r : Seen} (x : ℕ) → r ≡ seen_of (noted (known seen) x) → r ≡ seen_of (notes (known s) (vs ++ (x ∷ [])))
-  seen_more x h = h ∙ ap (λ l. seen_of (noted l x)) seen-known ∙ ap seen_of (sym (notes-append (known s) vs (x ∷ [])))
-
 -- one value more, which is labelled
-module _ (s : Seen) (t : Tidy 12 s) (vs : List ℕ) (i : ℕ) (low : i < 5) (long : i < length vs) {seen : Seen} (e : seen ≡ seen_of (notes (known s) (take i vs))) where
-  few : length (take i vs) ≤ 4
-  few = omega (arith, length-take-le i vs (omega arith))
+module _ (s vs : List ℕ) (i : ℕ) (low : i < 5) (long : i < length vs) {seen : List ℕ} (e : seen ≡ notes s (take i vs)) where
+  pub value-seen : noted seen (get_or vs i 0) ≡ notes s (take (i + 1) vs)
+  value-seen = ap (λ l. noted l (get_or vs i 0)) e ∙ sym (notes-append s (take i vs) (get_or vs i 0 ∷ [])) ∙ ap (notes s) (take_more vs i long)
 
-  pub value-tidy : Tidy 16 seen
-  value-tidy = seen-tidy s t (take i vs) few e
-
-  pub value-seen : {r : Seen} → r ≡ seen_of (noted (known seen) (get_or vs i 0)) → r ≡ seen_of (notes (known s) (take (i + 1) vs))
-  value-seen h = seen_more s t (take i vs) few e (get_or vs i 0) h ∙ ap (λ z. seen_of (notes (known s) z)) (take_more vs i long)
-
-  pub value-labels : {ls : List ℕ} (p : ℕ) → ls ≡ padded 5 (labels (known s) (take i vs)) → p ≡ position (known seen) (get_or vs i 0) → set ls i (p + 1) ≡ padded 5 (labels (known s) (take (i + 1) vs))
-  value-labels p l q =
-      let z : p + 1 ≡ suc (position (notes (known s) (take i vs)) (get_or vs i 0)) = omega (arith, q, ap (λ z. position z (get_or vs i 0)) (seen-known s t (take i vs) few e)) in
-      entry_more (labels (known s) (take i vs)) i (p + 1) l (labels_length (known s) (take i vs) ∙ length-take-le i vs (omega arith)) low
-      ∙ ap (λ k. padded 5 (labels (known s) (take i vs) ++ (k ∷ []))) z ∙ ap (padded 5) (sym (labels_append (known s) (take i vs) (get_or vs i 0 ∷ [])))
-      ∙ ap (λ z. padded 5 (labels (known s) z)) (take_more vs i long)
-
-pub labelled-is : (s : Seen) (vs : List ℕ) {ls : List ℕ} {seen : Seen} → ls ≡ padded 5 (labels (known s) vs) → seen ≡ seen_of (notes (known s) vs) → record { labels = ls; seen = seen } ≡ labelled s vs
-labelled-is s vs l k = λ j. record { labels = l j; seen = k j }
+  pub value-labels : {ls : List ℕ} → ls ≡ padded 5 (labels s (take i vs)) → set ls i (position seen (get_or vs i 0) + 1) ≡ padded 5 (labels s (take (i + 1) vs))
+  value-labels l =
+      let z : position seen (get_or vs i 0) + 1 ≡ suc (position (notes s (take i vs)) (get_or vs i 0)) = omega (arith, ap (λ z. position z (get_or vs i 0)) e) in
+      entry_more (labels s (take i vs)) i (position seen (get_or vs i 0) + 1) l (labels_length s (take i vs) ∙ length-take-le i vs (omega arith)) low
+      ∙ ap (λ k. padded 5 (labels s (take i vs) ++ (k ∷ []))) z ∙ ap (padded 5) (sym (labels_append s (take i vs) (get_or vs i 0 ∷ [])))
+      ∙ ap (λ z. padded 5 (labels s z)) (take_more vs i long)
 
 -- one label more, for which an identifier is found
-module _ (s : Seen) (t : Tidy 12 s) (ls : List ℕ) (i : ℕ) (low : i < 5) (long : i < length ls) {seen : Seen} (e : seen ≡ seen_of (notes (known s) (identifiers (known s) (take i ls)))) where
+module _ (s ls : List ℕ) (i : ℕ) (low : i < 5) (long : i < length ls) {seen : List ℕ} (e : seen ≡ notes s (identifiers s (take i ls))) where
   abbrev vs : List ℕ
-  vs = identifiers (known s) (take i ls)
+  vs = identifiers s (take i ls)
 
   count : length vs ≡ i
-  count = identifiers-length (known s) (take i ls) ∙ length-take-le i ls (omega arith)
+  count = identifiers-length s (take i ls) ∙ length-take-le i ls (omega arith)
 
-  pub found-tidy : Tidy 16 seen
-  found-tidy = seen-tidy s t vs (omega (arith, count)) e
+  more : vs ++ (identifier seen (get_or ls i 0) ∷ []) ≡ identifiers s (take (i + 1) ls)
+  more =
+      ap (λ z. vs ++ (identifier z (get_or ls i 0) ∷ [])) e ∙ sym (identifiers-append s (take i ls) (get_or ls i 0 ∷ []))
+      ∙ ap (identifiers s) (take_more ls i long)
 
-  more : {x : ℕ} → x ≡ identifier (known seen) (get_or ls i 0) → vs ++ (x ∷ []) ≡ identifiers (known s) (take (i + 1) ls)
-  more {x} h =
-      sym (ap (identifiers (known s)) (sym (take_more ls i long)) ∙ identifiers-append (known s) (take i ls) (get_or ls i 0 ∷ [])
-      ∙ ap (λ z. vs ++ (identifier z (get_or ls i 0) ∷ [])) (sym (seen-known s t vs (omega (arith, count)) e)) ∙ ap (λ z. vs ++ (z ∷ [])) (sym h))
+  pub found-seen : noted seen (identifier seen (get_or ls i 0)) ≡ notes s (identifiers s (take (i + 1) ls))
+  found-seen = ap (λ l. noted l (identifier seen (get_or ls i 0))) e ∙ sym (notes-append s vs (identifier seen (get_or ls i 0) ∷ [])) ∙ ap (notes s) more
 
-  pub found-seen : {r : Seen} {x : ℕ} → x ≡ identifier (known seen) (get_or ls i 0) → r ≡ seen_of (noted (known seen) x) → r ≡ seen_of (notes (known s) (identifiers (known s) (take (i + 1) ls)))
-  found-seen {r} {x} h k = seen_more s t vs (omega (arith, count)) e x k ∙ ap (λ z. seen_of (notes (known s) z)) (more h)
+  pub found_ids : {ids : List ℕ} → ids ≡ padded 5 (identifiers s (take i ls)) → set ids i (identifier seen (get_or ls i 0)) ≡ padded 5 (identifiers s (take (i + 1) ls))
+  found_ids k = entry_more vs i (identifier seen (get_or ls i 0)) k count low ∙ ap (padded 5) more
 
-  pub found_ids : {ids : List ℕ} {x : ℕ} → x ≡ identifier (known seen) (get_or ls i 0) → ids ≡ padded 5 (identifiers (known s) (take i ls))
-      → set ids i x ≡ padded 5 (identifiers (known s) (take (i + 1) ls))
-  found_ids {ids} {x} h k = entry_more vs i x k count low ∙ ap (padded 5) (more h)
+-- how many identifiers are known by then
+pub noted_room : (s vs : List ℕ) (i n : ℕ) {seen : List ℕ} → seen ≡ notes s (take i vs) → length s ≤ n → length seen ≤ n + i
+noted_room s vs i n e h = omega (arith, ap length e, notes-le s (take i vs), take-le i vs)
+
+pub found_room : (s ls : List ℕ) (i n : ℕ) {seen : List ℕ} → seen ≡ notes s (identifiers s (take i ls)) → length s ≤ n → length seen ≤ n + i
+found_room s ls i n e h = omega (arith, ap length e, notes-le s (identifiers s (take i ls)), identifiers-length s (take i ls), take-le i ls)

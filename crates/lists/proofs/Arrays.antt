@@ -3,13 +3,14 @@
 use Prim.Native.Nat.{ℕ, zero, suc, ◌+◌, ◌*◌, ◌-◌, ◌≤◌, ◌<◌}
 use mathlib.Core.List.{List, [], ◌∷◌, ◌++◌, map, map-append, Memᴰ}
 use mathlib.Core.Logic.{◌≢◌, ◌⊎◌, inl, inr, ⊎_elim, by_cases}
-use mathlib.Core.Path.{◌≡◌, refl, sym, ap, ap₂, ◌∙◌}
+use mathlib.Core.Path.{◌≡◌, refl, sym, ap, ap₂, ◌∙◌, subst}
 use native.Mathlib.Decide.{ℕ_discrete, dec_lt}
 use native.Mathlib.Nat.{zero-add, mul-le-mul_left}
 use native.Mathlib.Numerals.{add-one}
 use native.Mathlib.Omega.{arith}
-use lib.ListN.{length, get_or, take, drop, set, replicate, get_or-replicate, length-replicate, length-set, length-map, length-append, length-take, length-drop, get_or-append, get_or-eq_default}
+use lib.ListN.{length, get_or, take, drop, set, replicate, get_or-replicate, length-replicate, length-set, length-map, length-append, length-take, length-drop, get_or-eq_default}
 use lib.Seq.{paste, take-length, get_or-set_same, get_or-set_other, get_or-take, get_or-drop, take-append_seam, drop_at, ext_get_or}
+use Rattle.std.proofs.lemmas.List.Edits.{fill_more}
 use Rattle.lists.specs.Arrays.{padded, written, Kept}
 use Rattle.lists.specs.Filling.{Begins, filled}
 
@@ -177,3 +178,12 @@ filled_more xs₀ xs to f n v e d = ap₂ (λ (l : List ℕ) (x : ℕ). set l (t
 -- the front of a list, filled with one value
 pub clear_step : (xs₀ xs : List ℕ) (v n : ℕ) → xs ≡ filled xs₀ 0 (λ i. v) n → set xs n v ≡ filled xs₀ 0 (λ i. v) (n + 1)
 clear_step xs₀ xs v n e = ap (λ (k : ℕ). set xs k v) (sym (zero-add n)) ∙ filled_more xs₀ xs 0 (λ i. v) n v e refl
+
+-- as the library's `fill` leaves it
+pub filled_front : (xs : List ℕ) (v n : ℕ) → n ≤ length xs → replicate n v ++ drop n xs ≡ filled xs 0 (λ i. v) n
+unfolding filled
+filled_front xs v zero h = refl
+filled_front xs v (suc n) h =
+    let P : ℕ → Type 0 = λ k. replicate k v ++ drop k xs ≡ filled xs 0 (λ i. v) k in
+    let e : n + 1 ≡ suc n = omega arith in
+    subst P e (sym (fill_more n v xs (omega arith)) ∙ clear_step xs (replicate n v ++ drop n xs) v n (filled_front xs v n (omega arith)))

@@ -15,8 +15,7 @@ use Rattle.forms.specs.FormAutomaton.{automaton_of}
 use Rattle.forms.specs.Readable.{Readable}
 use Rattle.reader.specs.Table.{read_table}
 use Rattle.reader.specs.TableReply.{reply_of}
-use Rattle.reader.specs.declared.Reply.{Reply}
-use Rattle.reader.specs.declared.Reply.TheVariants.{Accepted, Refused}
+use Rattle.std.specs.Prelude.{Result, Ok, Err}
 use Rattle.reader.proofs.LegalForms.{legal}
 use Rattle.reader.proofs.WellRead.{table_well_formed}
 use Rattle.conditions.specs.Startable.{startable}
@@ -39,20 +38,20 @@ unfolding open_table
 no_start s t e h = ap (λ j. j then with_start) e ∙ fails (refusal 7 1 0) (λ ok. accepted t) (startable (automaton_of t)) h
 
 -- the reply, form and labels of a table that can be used, and of a refusal
-pub opened_told : (o : Judged (List ℕ)) (u cat : List ℕ) → o ≡ accepted u → cat ≡ class_labels u → Opened o Accepted u cat
+pub opened_told : (o : Judged (List ℕ)) (u cat : List ℕ) → o ≡ accepted u → cat ≡ class_labels u → Opened o (Ok tt) u cat
 opened_told (accepted t) u cat e l = let same : u ≡ t = cc in (refl, same, l ∙ ap class_labels same)
 opened_told (refused x) u cat e l = let z : ◌≡◌ {A = ℕ} 0 1 = cc in absurd (omega arith)
 
-pub refusal-told : (o : Judged (List ℕ)) (x : Refusal) (q : Reply) (u cat : List ℕ) → o ≡ refused x → q ≡ Refused x → Opened o q u cat
+pub refusal-told : (o : Judged (List ℕ)) (x : Refusal) (q : Result (Unit {0}) Refusal) (u cat : List ℕ) → o ≡ refused x → q ≡ Err x → Opened o q u cat
 refusal-told (accepted t) x q u cat e d = let z : ◌≡◌ {A = ℕ} 0 1 = cc in absurd (omega arith)
 refusal-told (refused y) x q u cat e d = (cc, tt, tt)
 
 -- a reader's refusal is that of opening
-pub not-read : (s : List ℕ) (q : Reply) (x : Refusal) → q ≡ reply_of (read_table s) → q ≡ Refused x → open_table s ≡ refused x
+pub not-read : (s : List ℕ) (q : Result (Unit {0}) Refusal) (x : Refusal) → q ≡ reply_of (read_table s) → q ≡ Err x → open_table s ≡ refused x
 unfolding open_table
 not-read s q x e d = go (read_table s) (sym e ∙ d)
   where
-    go : (j : Judged (List ℕ)) → reply_of j ≡ Refused x → (j then with_start) ≡ refused x
+    go : (j : Judged (List ℕ)) → reply_of j ≡ Err x → (j then with_start) ≡ refused x
     go (accepted t) h = let z : ◌≡◌ {A = ℕ} 0 1 = cc in absurd (omega arith)
     go (refused n) h = cc
 

@@ -1,13 +1,13 @@
 -- What opening a table returns, and leaves in the lent form and labels. This is what a reader believes.
 -- Assumes nothing.
-use Rattle.std.specs.Prelude.{ℕ, List, ◌≡◌, replicate}
+use Rattle.std.specs.Prelude.{ℕ, List, ◌≡◌, replicate, Result}
 use Rattle.refusals.specs.Judged.{Judged}
 use Rattle.refusals.specs.Judged.Judged.{accepted, refused}
 use Rattle.automata.specs.WellFormed.{constant_count}
 use Rattle.forms.specs.FormAutomaton.{automaton_of}
 use Rattle.lists.specs.Arrays.{written}
 use Rattle.catalogue.specs.Serving.{label_rows}
-use Rattle.reader.specs.declared.Reply.{Reply}
+use Rattle.refusals.specs.declared.Refusal.{Refusal}
 use Rattle.reader.specs.TableReply.{reply_of, Holds}
 
 -- the labels of all classes of a table, five to a class, in an array of 3,370
@@ -20,5 +20,5 @@ Labelled (accepted t) cat = cat ≡ class_labels t
 Labelled (refused r) cat = Unit {0}
 
 -- the form of a table that can be used, or its refusal, as the reply, the form and the labels say it
-abbrev pub Opened : Judged (List ℕ) → Reply → (form labels : List ℕ) → Type 0
+abbrev pub Opened : Judged (List ℕ) → Result (Unit {0}) Refusal → (form labels : List ℕ) → Type 0
 Opened o reply form labels = (reply ≡ reply_of o) × Holds o form × Labelled o labels

@@ -14,7 +14,6 @@ ghost use Rattle.opening.specs.Opening.{open_table};
 ghost use Rattle.opening.specs.OpenedLabels.{Opened};
 
 use forms::Form;
-use reader::Reply;
 use refusals::Refusal;
 
 // Writes the labels of a table's classes, and says whether one of them is a start.
@@ -32,20 +31,17 @@ pub fn classes_start(form: &[u32], flat: &mut [u8]) -> bool
 }
 
 // Reads a table to the form and the labels of its classes, both blank.
-pub fn open_table(s: &[u8], form: &mut Form, labels: &mut [u8; 3370]) -> Reply
+pub fn open_table(s: &[u8], form: &mut Form, labels: &mut [u8; 3370]) -> Result<(), Refusal>
     requires { (form.old ≡ blank_form) × (labels.old ≡ replicate 3370 0) }
     ensures { Opened (open_table s.now) result form.new labels.new }
 {
-    let reply = reader::read_table(s, form);
-    if let Reply::Accepted = reply {
-        if classes_start(form, labels) {
-            return Reply::Accepted;
-        }
-        return Reply::Refused(Refusal {
+    reader::read_table(s, form)?;
+    if !classes_start(form, labels) {
+        return Err(Refusal {
             number: 7,
             file: 1,
             line: 0,
         });
     }
-    reply
+    Ok(())
 }

@@ -3,7 +3,7 @@
 use Prim.Native.Nat.{ℕ, zero, suc, ◌+◌, ◌*◌, ◌-◌, ◌≤◌, min}
 use mathlib.Core.List.{List, [], ◌∷◌, ◌++◌, append_assoc}
 use mathlib.Core.Logic.{by_cases}
-use mathlib.Core.Path.{◌≡◌, refl, sym, ap, ap₂, ◌∙◌, subst, subst⁻¹}
+use mathlib.Core.Path.{◌≡◌, refl, sym, ap, ◌∙◌, subst, subst⁻¹}
 use native.Mathlib.Decide.{dec_lt}
 use native.Mathlib.Nat.{min-eq_left, min-eq_right}
 use native.Mathlib.Numerals.{add-one}
@@ -22,10 +22,8 @@ use Rattle.automata.specs.Runs.{State, Move, transition_of, is_step, after, perm
 use Rattle.labelling.proofs.Noted.{five_numbers}
 use Rattle.forms.proofs.Forms.{Limits}
 use Rattle.concretization.specs.RunLines.{moment_numbers, moment_line, lines_from, slotted, run_lines}
-use Rattle.claims.specs.declared.Reaching.{Reaching}
-use Rattle.claims.specs.AnswerNumbers.{reach_numbers}
-use Rattle.printout.specs.Document.{moment_lines, reach_bytes}
-use Rattle.printout.specs.PrintedLines.{shown, moments, moment_count}
+use Rattle.printout.specs.Document.{moment_lines}
+use Rattle.printout.specs.PrintedLines.{shown, moments}
 use Rattle.printout.specs.Text.{Put}
 use Rattle.printout.proofs.PutLines.{put-none, put_more, file_append}
 
@@ -60,11 +58,6 @@ moments_more s n slots at mid end a b c p q =
     let rest : take (length slots - 12 * n) (drop (12 * n) slots) ≡ drop (12 * n) slots = take_all (length slots - 12 * n) (drop (12 * n) slots) (omega (arith, length-drop (12 * n) slots)) in
     let both = put_more (file_bytes s (moments n slots)) (file_bytes s here) at mid end a b c p (subst (λ x. Put (file_bytes s (shown x ∷ [])) mid end b c) rest q) in
     subst⁻¹ (λ k. Put (file_bytes s (moments k slots)) at end a c) (add-one n) (subst⁻¹ (λ x. Put x at end a c) (file_append s (moments n slots) here) both)
-
--- the answer's line and the moments are those of the reply
-pub answer-put : (r : Reaching) (slots vs : List ℕ) (m end : ℕ) (a c : List ℕ) → vs ≡ reach_numbers r → m ≡ moment_count r → Put (reach_bytes (vs ∷ moments m slots)) 0 end a c
-    → Put (reach_bytes (reach_numbers r ∷ moments (moment_count r) slots)) 0 end a c
-answer-put r slots vs m end a c e d p = subst (λ ls. Put (reach_bytes ls) 0 end a c) (ap₂ (λ u n. u ∷ moments n slots) e d) p
 
 -- what is shown of a moment's slots are its numbers
 shown-slotted : (xs rest : List ℕ) → length xs ≤ 11 → shown (slotted xs ++ rest) ≡ xs

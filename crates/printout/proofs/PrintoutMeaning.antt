@@ -48,7 +48,8 @@ use Rattle.witness.proofs.RunJudged.{printed-right, never-right}
 use Rattle.writing.specs.Said.{TableFile, TargetFile}
 use Rattle.writing.proofs.Said.{table_says, says_table, target_says, says_target}
 use Rattle.claims.specs.declared.Notation.{Notation}
-use Rattle.claims.specs.declared.Reaching.{Reaching}
+use Rattle.witness.specs.declared.Answer.{Answer as Found}
+use Rattle.std.proofs.Common.{Result}
 use Rattle.claims.specs.declared.Asking.{Asking}
 use Rattle.claims.specs.Files.{WithTarget, with_target, target_files, WithQuestion, with_question, question_to, question_files, ReachBuffers, search_room, reach_files, AskBuffers, rows_room, ask_files}
 use Rattle.claims.specs.ReachReply.{found_reply, reach_reply, found_numbers, reach_told, reach_lines}
@@ -151,7 +152,7 @@ module _ (s g : List ℕ) where
       }
 
   -- what the call returned, over buffers with room
-  module _ (b : ReachBuffers) (room : T (search_room b)) (q : Reaching) (slots : List ℕ) (e : q ≡ reach_reply (reach_files b s g)) (d : slots ≡ reach_lines (reach_files b s g) b.lines) where
+  module _ (b : ReachBuffers) (room : T (search_room b)) (q : Result Found Refusal) (slots : List ℕ) (e : q ≡ reach_reply (reach_files b s g)) (d : slots ≡ reach_lines (reach_files b s g) b.lines) where
     roomy : reach_files b s g ≡ target_files s g
     roomy = reach_roomy b s g (T_true (search_room b) room)
 
@@ -265,7 +266,7 @@ module _ (w : Notation) (s q : List ℕ) where
       }
 
   -- what the call returned, over a buffer with room
-  module _ (b : AskBuffers) (room : T (rows_room b)) (reply : Asking) (contents : List ℕ) (e : reply ≡ ask_reply (ask_files w b s q)) (d : contents ≡ ask_contents (ask_files w b s q) b.contents) where
+  module _ (b : AskBuffers) (room : T (rows_room b)) (reply : Result Asking Refusal) (contents : List ℕ) (e : reply ≡ ask_reply (ask_files w b s q)) (d : contents ≡ ask_contents (ask_files w b s q) b.contents) where
     enough : ask_files w b s q ≡ question_files w s q
     enough = ask_roomy w b s q (leb→le 10784 (length b.rows) room)
 

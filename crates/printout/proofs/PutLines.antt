@@ -87,6 +87,10 @@ pub answer-few : (vs : List ℕ) → length vs ≤ 7 → length (file_bytes Answ
 unfolding width
 answer-few vs h = line-few Answer 2 5 (λ k i l. ap (λ b. cond (eqb k 0 && b) 12 6) (lt-leb 2 i l) ∙ ap (λ b. cond b 12 6) (and-false (eqb k 0))) vs h
 
+-- whatever the four numbers are, they have room where 73 bytes have
+pub answer_four : (x y z u t : ℕ) → 73 ≤ t → 0 + length (file_bytes Answer ((x ∷ y ∷ z ∷ u ∷ []) ∷ [])) ≤ t
+answer_four x y z u t h = omega (arith, answer-few (x ∷ y ∷ z ∷ u ∷ []) (omega arith))
+
 -- one number that is no identifier
 pub one-length : (v : ℕ) → length (file_bytes Plain ((v ∷ []) ∷ [])) ≡ 7
 unfolding width

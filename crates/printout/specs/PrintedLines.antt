@@ -1,17 +1,18 @@
 -- The lines that are printed, as the code has them. What they say is in `Document`, so that this page need not be believed.
 -- Assumes nothing.
-use Rattle.std.specs.Prelude.{ℕ, zero, suc, ◌*◌, min, List, [], ◌∷◌, ◌++◌, get_or, take, drop}
+use Rattle.std.specs.Prelude.{ℕ, zero, suc, ◌*◌, min, List, [], ◌∷◌, ◌++◌, get_or, take, drop, Result, Ok, Err}
 use Rattle.std.proofs.Math.Option.{Option, none, some}
+use Rattle.refusals.specs.declared.Refusal.{Refusal}
 use Rattle.refusals.specs.Judged.{Judged, left}
 use Rattle.graphs.specs.Search.{Walk}
 use Rattle.automata.specs.Automaton.{Automaton}
 use Rattle.automata.specs.Answers.{nearest_to}
 use Rattle.moves.specs.PathMoves.{walk_contents, walk_moves}
 use Rattle.forms.specs.FormAutomaton.{automaton_of, target_of}
-use Rattle.claims.specs.declared.Reaching.{Reaching}
-use Rattle.claims.specs.declared.Reaching.TheVariants as reaching
+use Rattle.witness.specs.declared.Answer.{Answer}
+use Rattle.witness.specs.declared.Answer.TheVariants.{Never, Reached}
 use Rattle.claims.specs.declared.Asking.{Asking}
-use Rattle.claims.specs.declared.Asking.TheVariants as asking
+use Rattle.claims.specs.declared.Asking.TheVariants.{Yes, No}
 use Rattle.claims.specs.Files.{WithTarget, WithQuestion}
 use Rattle.claims.specs.ReachReply.{reach_told}
 use Rattle.claims.specs.AskReply.{ask_told}
@@ -29,16 +30,16 @@ moments zero slots = []
 moments (suc n) slots = moments n slots ++ (shown (drop (12 * n) slots) ∷ [])
 
 -- the moments of the run that is printed: the start and one for each step, none where there is no run
-abbrev pub moment_count : Reaching → ℕ
-moment_count (reaching.Never reached) = 0
-moment_count (reaching.Reached steps reached) = suc steps
-moment_count (reaching.Refused r) = 0
+abbrev pub moment_count : Result Answer Refusal → ℕ
+moment_count (Ok (Never reached)) = 0
+moment_count (Ok (Reached steps reached)) = suc steps
+moment_count (Err r) = 0
 
 -- the class that a no names
-abbrev pub class_of : Asking → ℕ
-class_of asking.Yes = 0
-class_of (asking.No class registers) = class
-class_of (asking.Refused r) = 0
+abbrev pub class_of : Result Asking Refusal → ℕ
+class_of (Ok Yes) = 0
+class_of (Ok (No class registers)) = class
+class_of (Err r) = 0
 
 -- The printouts
 

@@ -1,5 +1,5 @@
 // The printout for a question, in either notation: one line.
-ghost use Rattle.std.specs.Prelude.{◌≡◌, ◌≤◌, ◌<◌, min, length, take};
+ghost use Rattle.std.specs.Prelude.{[], ◌∷◌, ◌≡◌, ◌≤◌, ◌<◌, length, take};
 ghost use Rattle.io.specs.Counts.{IsPrefixLen};
 ghost use Rattle.columns.specs.declared.Sheet.TheVariants.{Answer};
 ghost use Rattle.columns.specs.Columns.{file_bytes};
@@ -8,43 +8,26 @@ ghost use Rattle.claims.specs.Files.{WithQuestion, question_files, AskBuffers, a
 ghost use Rattle.claims.specs.AskReply.{ask_reply, ask_contents};
 ghost use Rattle.claims.specs.AnswerNumbers.{ask_numbers};
 ghost use Rattle.printout.specs.PrintedLines.{class_of, ask_printed};
-ghost use Rattle.printout.specs.Text.{AskText};
+ghost use Rattle.printout.specs.Text.{Put, AskText};
 
 use crate::files::{Printed, read_file};
 use crate::text::put_line;
 use checker::Asking;
 use claims::Notation;
 use columns::Sheet;
+use refusals::Refusal;
+use std::io;
 use std::rt::Files;
 
-#[derive(Clone, Copy)]
-pub struct Numbers {
-    pub count: usize,
-    pub values: [u32; 7],
-}
-
-fn at_most_five(n: usize) -> usize
-    ensures { result ≡ min n 5 }
-{
-    if n < 5 {
-        return n;
-    }
-    5
-}
-
-// Document 01's numbers of the answer: of the contents, as many as there are registers.
-fn first_line(reply: Asking, contents: [u32; 5]) -> Numbers
-    requires { class_of reply < 1000000 }
-    ensures { (result.count ≤ 7) × IsPrefixLen result.count result.values × (take result.count result.values ≡ ask_numbers reply contents) }
+// Writes document 01's numbers of the answer: of the contents, as many as there are registers. Returns where the line ends.
+fn put_answer(text: &mut [u8], reply: Result<Asking, Refusal>, contents: [u32; 5]) -> usize
+    requires { (class_of reply < 1000000) × (73 ≤ length text.old) }
+    ensures { Put (file_bytes Answer (ask_numbers reply contents ∷ [])) 0 result text.old text.new × IsPrefixLen result text.new }
 {
     match reply {
-        Asking::Yes => Numbers {
-            count: 1,
-            values: [1, 0, 0, 0, 0, 0, 0],
-        },
-        Asking::No { class, registers } => Numbers {
-            count: 2 + at_most_five(registers),
-            values: [
+        Ok(Asking::Yes) => put_line(text, 0, Sheet::Answer, &[1]),
+        Ok(Asking::No { class, registers }) => {
+            let values = [
                 0,
                 class as u32,
                 contents[0],
@@ -52,15 +35,14 @@ fn first_line(reply: Asking, contents: [u32; 5]) -> Numbers
                 contents[2],
                 contents[3],
                 contents[4],
-            ],
-        },
-        Asking::Refused(r) => Numbers {
-            count: 4,
-            values: [2, r.number, r.file, r.line, 0, 0, 0],
-        },
+            ];
+            put_line(text, 0, Sheet::Answer, &values[..2 + registers.min(5)])
+        }
+        Err(r) => put_line(text, 0, Sheet::Answer, &[2, r.number, r.file, r.line]),
     }
 }
 
+// Stays: one match on the notation, which the functions around it pass on.
 // The checker's call on a question in this notation.
 fn ask_in(
     notation: Notation,
@@ -68,7 +50,7 @@ fn ask_in(
     question: &[u8],
     rows: &mut [u32],
     contents: &mut [u32; 5],
-) -> Asking
+) -> Result<Asking, Refusal>
     ensures { let before : AskBuffers = ask_buffers rows.old contents.old in
         let f : Judged WithQuestion = ask_files notation before table.now question.now in
         (result ≡ ask_reply f) × (contents.new ≡ ask_contents f before.contents) }
@@ -92,10 +74,7 @@ fn put_asking_over(
 {
     let mut contents = [0u32; 5];
     let reply = ask_in(notation, table, question, rows, &mut contents);
-    let line = first_line(reply, contents);
-    let n = line.count;
-    let values = line.values;
-    put_line(text, 0, Sheet::Answer, &values[..n])
+    put_answer(text, reply, contents)
 }
 
 // The same, over memory of its own.
@@ -107,17 +86,17 @@ pub fn put_asking(notation: Notation, table: &[u8], question: &[u8], text: &mut 
     put_asking_over(notation, table, question, &mut rows, text)
 }
 
-// Hands over the printout for these bytes of a table and a question; false where not all could be written.
+// Hands over the printout for these bytes of a table and a question.
 fn hand_over(
     rt: &impl Print,
     notation: Notation,
     table: &[u8],
     question: &[u8],
     text: &[u8],
-) -> bool
+) -> io::Result<()>
     requires { text.now ≡ file_bytes Answer (ask_printed (question_files notation table.now question.now)) }
 {
-    rt.write_all(text).is_ok()
+    rt.write_all(text)
 }
 
 // Prints the answer for the files of these names: reads both into lent bytes, and hands the printout for what was read over, all at once. Of the
@@ -137,22 +116,22 @@ pub fn print_asking_over<R: Files + Print>(
     let t = read_file(rt, table_name, table);
     let q = read_file(rt, question_name, question);
     let n = put_asking(notation, &table[..t], &question[..q], text);
-    let all = hand_over(rt, notation, &table[..t], &question[..q], &text[..n]);
+    let written = hand_over(rt, notation, &table[..t], &question[..q], &text[..n]);
     Printed {
         table: t,
         other: q,
         text: n,
-        all: all,
+        written,
     }
 }
 
-// The same, over memory of its own; false where not all could be written.
+// The same, over memory of its own.
 fn print_in<R: Files + Print>(
     rt: &R,
     notation: Notation,
     table_name: &[u8],
     question_name: &[u8],
-) -> bool {
+) -> io::Result<()> {
     let mut table = [0u8; 40001];
     let mut question = [0u8; 609];
     let mut text = [b' '; 73];
@@ -165,15 +144,23 @@ fn print_in<R: Files + Print>(
         &mut question,
         &mut text,
     );
-    printed.all
+    printed.written
 }
 
 // Prints the answer to a question that is a file of rows.
-pub fn print_asking<R: Files + Print>(rt: &R, table_name: &[u8], question_name: &[u8]) -> bool {
+pub fn print_asking<R: Files + Print>(
+    rt: &R,
+    table_name: &[u8],
+    question_name: &[u8],
+) -> io::Result<()> {
     print_in(rt, Notation::Rows, table_name, question_name)
 }
 
 // Prints the answer to a question that is a line of text.
-pub fn print_asking_text<R: Files + Print>(rt: &R, table_name: &[u8], text_name: &[u8]) -> bool {
+pub fn print_asking_text<R: Files + Print>(
+    rt: &R,
+    table_name: &[u8],
+    text_name: &[u8],
+) -> io::Result<()> {
     print_in(rt, Notation::Text, table_name, text_name)
 }

@@ -13,8 +13,7 @@ use Rattle.refusals.specs.Judged.Judged.{accepted}
 use Rattle.lists.specs.Arrays.{padded}
 use Rattle.graphs.proofs.Lists.{T_true}
 use Rattle.fields.specs.LineRead.{judge_read}
-use Rattle.fields.specs.declared.Line.{Line}
-use Rattle.fields.specs.declared.Line.TheVariants.{Fields, Spoilt}
+use Rattle.std.specs.Prelude.{Option, Some, None}
 use Rattle.fields.proofs.LineFiles.{file_keeps}
 use Rattle.automata.specs.Automaton.{Automaton}
 use Rattle.automata.specs.Questions.{Row, Use, kind_of}
@@ -63,10 +62,10 @@ module _ (c : Counts) (n m : ℕ) (r : c.registers ≤ m) (k : c.constants ≤ m
       (omega (arith, inside→ 14 f.kind v), field-small (kind_of f.kind).first f.first s, field-small (kind_of f.kind).second f.second t)
 
   -- of a line as it is read
-  pub line_small : (l : Line) (f : List ℕ) (x : ℕ) → x ≡ judge_read (judge_fields c n) l f → x ≡ 0 → 14 ≤ m → (get_or f 0 0 ≤ m) × (get_or f 1 0 ≤ m) × (get_or f 2 0 ≤ m)
+  pub line_small : (l : Option ℕ) (f : List ℕ) → judge_read (judge_fields c n) l f ≡ 0 → 14 ≤ m → (get_or f 0 0 ≤ m) × (get_or f 1 0 ≤ m) × (get_or f 2 0 ≤ m)
   unfolding judge_fields
-  line_small (Fields k) f x e z w = row_small (row_in f) (three_fields (eqb k 3) k (judge_row c n (row_in f)) refl (sym e ∙ z)).1 w
-  line_small Spoilt f x e z w = absurd (omega arith)
+  line_small (Some k) f z w = row_small (row_in f) (three_fields (eqb k 3) k (judge_row c n (row_in f)) refl z).1 w
+  line_small None f z w = absurd (omega arith)
 
 rows_snoc : (a : Automaton) (n m : ℕ) (rs : List Row) (r : Row) → n + length rs ≡ m → T (fits_rows a n rs) → T (fits_row a m r) → T (fits_rows a n (rs ++ (r ∷ [])))
 rows_snoc a n m [] r e h k = let z : n ≡ m = omega arith in and_i (fits_row a n r) true (rw z k) tt

@@ -1,7 +1,7 @@
 -- What a caller learns of the reader's reply. Assumes nothing.
 use Prim.Native.Nat.{ℕ, ◌≤◌}
 use mathlib.Core.List.{List}
-use mathlib.Core.Path.{◌≡◌, refl, sym, ap}
+use mathlib.Core.Path.{◌≡◌, sym, ap}
 use native.Mathlib.Omega.{arith}
 use lib.Dec.{eqb}
 use Rattle.refusals.specs.Judged.{Judged}
@@ -12,36 +12,23 @@ use Rattle.automata.specs.WellFormed.{inside}
 use Rattle.fields.proofs.LineFiles.{Numbered, file_numbers}
 use Rattle.questions.specs.declared.Counts.{Counts}
 use Rattle.refusals.specs.declared.Refusal.{Refusal}
-use Rattle.questions.specs.declared.Reply.{Reply}
-use Rattle.questions.specs.declared.Reply.TheVariants.{Accepted, Refused}
-use Rattle.questions.specs.RowsRead.{Holds}
+use Rattle.std.specs.Prelude.{Ok, Err}
 use Rattle.questions.specs.QuestionRules.{judge_field, judge_row, row_in, judge_fields}
 use Rattle.questions.specs.Question.{Rows, nothing_read, question_rules, counts, read_question}
 use Rattle.questions.specs.QuestionReply.{reply_of, form_of}
 use Rattle.graphs.proofs.Lists.{cond-le}
 
--- a caller that is told `Accepted` has the form of the rows
-pub accepted-rows : (o : Judged Rows) (v : List ℕ) (n : ℕ) → reply_of o ≡ Accepted n → o ≡ accepted (record { form = form_of o v; count = n })
+-- a caller that is told `Ok` has the form of the rows
+pub accepted-rows : (o : Judged Rows) (v : List ℕ) (n : ℕ) → reply_of o ≡ Ok n → o ≡ accepted (record { form = form_of o v; count = n })
 accepted-rows (accepted q) v n e = let z : q.count ≡ n = cc in λ i. accepted (record { form = q.form; count = z i })
 accepted-rows (refused r) v n e = let z : ◌≡◌ {A = ℕ} 0 1 = cc in absurd (omega arith)
 
--- what is accepted or refused, as it is held
-pub held-accepted : (o : Judged Rows) (u : List ℕ) (n : ℕ) → o ≡ accepted (record { form = u; count = n }) → (Accepted n ≡ reply_of o) × Holds o u
-held-accepted (accepted q) u n e = let z : q ≡ record { form = u; count = n } = cc in (ap (λ p. Accepted p.count) (sym z), ap (λ p. p.form) (sym z))
-held-accepted (refused x) u n e = let z : ◌≡◌ {A = ℕ} 0 1 = cc in absurd (omega arith)
+-- what is told of the rows is the reply and the buffer that is left, where it was v
+pub told-accepted : (o : Judged Rows) (q : Rows) (v : List ℕ) → o ≡ accepted q → (Ok q.count ≡ reply_of o) × (q.form ≡ form_of o v)
+told-accepted o q v e = (ap reply_of (sym e), ap (λ k. form_of k v) (sym e))
 
-pub held-refused : (o : Judged Rows) (x : Refusal) (r : Reply) (u : List ℕ) → o ≡ refused x → r ≡ Refused x → (r ≡ reply_of o) × Holds o u
-held-refused (accepted q) x r u e d = let z : ◌≡◌ {A = ℕ} 0 1 = cc in absurd (omega arith)
-held-refused (refused y) x r u e d = (cc, tt)
-
--- the buffer that they leave, where it was v
-pub left-accepted : (o : Judged Rows) (r : Reply) (u v : List ℕ) (n : ℕ) → r ≡ reply_of o → Holds o u → r ≡ Accepted n → (Accepted n ≡ reply_of o) × (u ≡ form_of o v)
-left-accepted (accepted q) r u v n e h d = (cc, h)
-left-accepted (refused x) r u v n e h d = let z : ◌≡◌ {A = ℕ} 0 1 = cc in absurd (omega arith)
-
-pub left-refused : (o : Judged Rows) (r : Reply) (v : List ℕ) (x : Refusal) → r ≡ reply_of o → r ≡ Refused x → (Refused x ≡ reply_of o) × (v ≡ form_of o v)
-left-refused (accepted q) r v x e d = let z : ◌≡◌ {A = ℕ} 0 1 = cc in absurd (omega arith)
-left-refused (refused y) r v x e d = (cc, refl)
+pub told-refused : (o : Judged Rows) (x : Refusal) (v : List ℕ) → o ≡ refused x → (Err x ≡ reply_of o) × (v ≡ form_of o v)
+told-refused o x v e = (ap reply_of (sym e), ap (λ k. form_of k v) (sym e))
 
 -- A refusal's number is one of document 01's
 

@@ -1,5 +1,4 @@
--- What the contracts of the reader of questions cite. QuestionRules, Question and QuestionReply are to be believed; RowsRead has the shape of the code and is not.
+-- What the contracts of the reader of questions cite, which is to be believed.
 pub mod QuestionRules
 pub mod Question
 pub mod QuestionReply
-pub mod RowsRead

@@ -3,14 +3,13 @@
 use Prim.Native.Nat.{ℕ, zero, suc, ◌≤◌, ◌<◌}
 use mathlib.Core.Bool.{Bool, true, false, not, cond, ◌&&◌, ◌||◌, and-eq-true_iff}
 use mathlib.Core.List.{List}
-use mathlib.Core.Path.{◌≡◌, refl, sym, ◌∙◌, subst⁻¹}
+use mathlib.Core.Path.{◌≡◌, refl, subst⁻¹}
 use borrow.Author.Tests.{leb-true, leb-false, ltb-true, eqb-true, eq-eqb, not-true}
 use native.Mathlib.Omega.{arith}
 use lib.Dec.{T, leb, ltb, eqb}
 use Rattle.columns.specs.Widths.{largest}
 use Rattle.fields.specs.LineRead.{judge_read}
-use Rattle.fields.specs.declared.Line.{Line}
-use Rattle.fields.specs.declared.Line.TheVariants.{Fields, Spoilt}
+use Rattle.std.specs.Prelude.{Option, Some, None}
 use Rattle.graphs.specs.Lists.{all_of}
 use Rattle.automata.specs.WellFormed.{inside}
 use Rattle.reader.specs.declared.Progress.{Progress}
@@ -124,9 +123,9 @@ unfolding in_range
 line-issued p n f z = (and2 (all_of (λ v. leb v largest) f) (fit_from p true (kind_of (at f 0)).fields f 1) (line-passed p n f z).1).0
 
 -- of a line as it is read
-pub read-issued : (p : Progress) (l : Line) (f : List ℕ) (n : ℕ) → n ≡ judge_read (judge_line p) l f → n ≡ 0 → T (all_of (λ v. leb v largest) f)
-read-issued p (Fields m) f n e z = subst⁻¹ T (line-issued p m f (sym e ∙ z)) tt
-read-issued p Spoilt f n e z = absurd (omega arith)
+pub read-issued : (p : Progress) (n : Option ℕ) (f : List ℕ) → judge_read (judge_line p) n f ≡ 0 → T (all_of (λ v. leb v largest) f)
+read-issued p (Some m) f z = subst⁻¹ T (line-issued p m f z) tt
+read-issued p None f z = absurd (omega arith)
 
 no_kind_lem : {A : Type 0} → false ≡ true → A
 no_kind_lem e = let z : ◌≡◌ {A = ℕ} 0 1 = cc in absurd (omega arith)

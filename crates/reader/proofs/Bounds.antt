@@ -1,17 +1,17 @@
--- The counters stay small; a number that is no kind; the six numbers of a row. Assumes nothing.
+-- The counters stay small; a number that is no kind. Assumes nothing.
 use Prim.Native.Nat.{ℕ, zero, suc, ◌+◌, ◌^◌, ◌≤◌, ◌<◌}
 use native.Mathlib.Omega.{arith}
-use mathlib.Core.Bool.{Bool, true, cond, ◌&&◌, and_assoc, and-true}
+use mathlib.Core.Bool.{Bool, cond, ◌&&◌}
 use mathlib.Core.List.{List, [], ◌∷◌}
 use lib.Dec.{eqb}
-use lib.ListN.{length}
-use Rattle.forms.proofs.FormRows.{six}
 use mathlib.Core.Logic.{◌≢◌}
-use mathlib.Core.Path.{◌≡◌, refl}
+use mathlib.Core.Path.{◌≡◌, refl, ap}
+use Rattle.std.specs.List.{list_all}
 use Rattle.reader.specs.TableRead.{Small}
 use Rattle.reader.specs.declared.Progress.{Progress}
 use Rattle.reader.specs.declared.Kind.{Kind}
 use Rattle.reader.specs.TableRules.{at, no_kind, kind_of, kind_at, expected, judge_values, judge_line, advance}
+use Rattle.graphs.specs.Lists.{all_of}
 use Rattle.graphs.proofs.Lists.{cond-le}
 
 pub row_low : (p : Progress) (k n : ℕ) → Small p 50000 → n < 2 ^ 32 → (kind_at p k n).row ≤ 2 ^ 40
@@ -26,9 +26,6 @@ row_low p (suc (suc (suc (suc (suc (suc zero)))))) n s h = omega arith
 row_low p (suc (suc (suc (suc (suc (suc (suc zero))))))) n s h = omega arith
 row_low p (suc (suc (suc (suc (suc (suc (suc (suc zero)))))))) n s h = omega arith
 row_low p (suc (suc (suc (suc (suc (suc (suc (suc (suc k))))))))) n s h = omega arith
-
-pub small_weaken : (p : Progress) (n m : ℕ) → n ≤ m → Small p n → Small p m
-small_weaken p n m h s = record { ids_small = omega arith; acts_small = omega arith; transition-small = omega arith; place_small = omega arith; conds_small = omega arith }
 
 pub small-advance : (p : Progress) (k : Kind) (f : List ℕ) (a n : ℕ) → Small p n → Small (advance p k f a) (n + 1)
 unfolding advance
@@ -55,20 +52,11 @@ other (suc (suc (suc (suc (suc (suc (suc (suc zero)))))))) a b c d e f g h = abs
 other (suc (suc (suc (suc (suc (suc (suc (suc (suc k))))))))) a b c d e f g h = refl
 
 -- a judgement does not look at a kind's row
-pub judge-kind : (p : Progress) (n : ℕ) (f : List ℕ) → cond (expected p (kind_at p (at f 0) 0) n) (judge_values p (kind_at p (at f 0) 0) f) 2 ≡ judge_line p n f
+pub judge_kind : (p : Progress) (n : ℕ) (f : List ℕ) → cond (expected p (kind_at p (at f 0) 0) n) (judge_values p (kind_at p (at f 0) 0) f) 2 ≡ judge_line p n f
 unfolding judge_line judge_values kind_at
-judge-kind p n f = refl
+judge_kind p n f = refl
 
--- a row has six numbers
-pub six_numbers : (f : List ℕ) → length f ≡ 6 → six f ≡ f
-six_numbers [] h = absurd (omega arith)
-six_numbers (a ∷ []) h = absurd (omega arith)
-six_numbers (a ∷ b ∷ []) h = absurd (omega arith)
-six_numbers (a ∷ b ∷ c ∷ []) h = absurd (omega arith)
-six_numbers (a ∷ b ∷ c ∷ d ∷ []) h = absurd (omega arith)
-six_numbers (a ∷ b ∷ c ∷ d ∷ e ∷ []) h = absurd (omega arith)
-six_numbers (a ∷ b ∷ c ∷ d ∷ e ∷ g ∷ []) h = refl
-six_numbers (a ∷ b ∷ c ∷ d ∷ e ∷ g ∷ k ∷ f) h = absurd (omega arith)
-
-pub all_six : (a b c d e f : Bool) → (a && b && c && d && e && f) ≡ (a && (b && (c && (d && (e && (f && true))))))
-all_six a b c d e f = simp (and_assoc, and-true)
+-- std's test of all numbers
+pub all_is : (p : ℕ → Bool) (l : List ℕ) → list_all p l ≡ all_of p l
+all_is p [] = refl
+all_is p (x ∷ l) = ap (λ b. p x && b) (all_is p l)

@@ -11,29 +11,34 @@ use Rattle.refusals.specs.Judged.Judged.{accepted, refused}
 use Rattle.refusals.specs.declared.Refusal.{Refusal}
 use Rattle.columns.specs.Widths.{largest}
 use Rattle.fields.specs.LineFiles.{read_file}
+use Rattle.fields.specs.LinesRead.{Tells}
 use Rattle.fields.proofs.LineFiles.{Numbered, file_numbers}
 use Rattle.reader.specs.declared.Progress.{Progress}
 use Rattle.reader.specs.declared.Kind.{Kind}
-use Rattle.reader.specs.declared.Reply.{Reply}
-use Rattle.reader.specs.declared.Reply.TheVariants.{Accepted, Refused}
+use Rattle.std.specs.Prelude.{Result, Ok, Err}
 use Rattle.reader.specs.TableRules.{at, kind_at, expected, crowded, in_range, in_order, judge_values, judge_line}
 use Rattle.reader.specs.Table.{Read, table_rules, blank_form, read_form}
 use Rattle.reader.specs.TableReply.{Filled}
 use Rattle.graphs.proofs.Lists.{cond-le}
 
--- a caller that is told `Accepted` has the form of the table
-pub told : (o : Judged (List ℕ)) (r : Reply) (u : List ℕ) → Filled o r u → r ≡ Accepted → o ≡ accepted u
+-- a caller that is told `Ok` has the form of the table
+pub told : (o : Judged (List ℕ)) (r : Result (Unit {0}) Refusal) (u : List ℕ) → Filled o r u → r ≡ Ok tt → o ≡ accepted u
 told (accepted t) r u f e = ap accepted (sym f.1)
 told (refused x) r u f e = let is = f.0 in let z : ◌≡◌ {A = ℕ} 0 1 = cc in absurd (omega arith)
 
 -- what is accepted or refused, as it is filled
-pub filled-accepted : (o : Judged (List ℕ)) (u : List ℕ) → o ≡ accepted u → Filled o Accepted u
+pub filled-accepted : (o : Judged (List ℕ)) (u : List ℕ) → o ≡ accepted u → Filled o (Ok tt) u
 filled-accepted (accepted t) u e = (refl, cc)
 filled-accepted (refused x) u e = let z : ◌≡◌ {A = ℕ} 0 1 = cc in absurd (omega arith)
 
-pub filled-refused : (o : Judged (List ℕ)) (x : Refusal) (r : Reply) (u : List ℕ) → o ≡ refused x → r ≡ Refused x → Filled o r u
+pub filled-refused : (o : Judged (List ℕ)) (x : Refusal) (r : Result (Unit {0}) Refusal) (u : List ℕ) → o ≡ refused x → r ≡ Err x → Filled o r u
 filled-refused (accepted t) x r u e d = let z : ◌≡◌ {A = ℕ} 0 1 = cc in absurd (omega arith)
 filled-refused (refused y) x r u e d = (cc, tt)
+
+-- what is told of the progress and the form is told of the form
+pub filled-told : (o : Judged Read) (r : Result (Unit {0}) Refusal) (x : Read) → Tells o r x → Filled (◌then◌ o (λ y. accepted y.form)) r x.form
+filled-told o (Ok u) x e = filled-accepted _ x.form (ap (λ k. ◌then◌ k (λ y. accepted y.form)) e)
+filled-told o (Err z) x e = filled-refused _ z (Err z) x.form (ap (λ k. ◌then◌ k (λ y. accepted y.form)) e) refl
 
 -- A number that is too large
 

@@ -1,4 +1,4 @@
--- What the contracts of the reader cite. TableRules, Table and TableReply are to be believed; TableRead has the shape of the code and is not.
+-- What the contracts of the reader cite. TableRules, Table and TableReply are to be believed; TableRead is not.
 pub mod TableRules
 pub mod Table
 pub mod TableReply

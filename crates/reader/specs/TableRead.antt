@@ -1,19 +1,8 @@
--- The reader of a table between two lines, with the shape of the code. Not to be believed.
+-- The counters of a table's reader between two lines. Not to be believed.
 -- Assumes nothing.
-use Rattle.std.specs.Prelude.{ℕ, ◌≤◌, List}
-use Rattle.refusals.specs.Judged.{Judged, ◌then◌}
-use Rattle.refusals.specs.Judged.Judged.{accepted}
-use Rattle.fields.specs.Format.{pieces}
-use Rattle.fields.specs.LineFiles.{read_lines}
+use Rattle.std.specs.Prelude.{ℕ, ◌≤◌}
+use Rattle.std.proofs.Common.{arith}
 use Rattle.reader.specs.declared.Progress.{Progress}
-use Rattle.reader.specs.Table.{Read, table_rules}
-
-abbrev pub form_in : Judged Read → Judged (List ℕ)
-form_in o = o then (λ x. accepted x.form)
-
--- the form t with the lines of a file, the first after p
-abbrev pub lines_from : ℕ → Progress → List ℕ → List ℕ → Judged (List ℕ)
-lines_from file p t s = form_in (read_lines table_rules file 0 (record { progress = p; form = t }) (pieces s).0 (pieces s).1)
 
 -- the counters are at most n, as after n lines
 pub record Small (p : Progress) (n : ℕ) : Type 0 where
@@ -22,3 +11,6 @@ pub record Small (p : Progress) (n : ℕ) : Type 0 where
   pub transition-small : p.transition ≤ n
   pub place_small : p.place ≤ n
   pub conds_small : p.conds ≤ n
+
+pub small_weaken : (p : Progress) (n m : ℕ) → n ≤ m → Small p n → Small p m
+small_weaken p n m h s = record { ids_small = omega arith; acts_small = omega arith; transition-small = omega arith; place_small = omega arith; conds_small = omega arith }

@@ -1,24 +1,25 @@
 // The reader of tables and targets: the rules for their lines, and the loop over them.
 #![tactic(auto)]
 
-ghost use Rattle.std.specs.Prelude.{◌≡◌, true, cond, ◌+◌, ◌≤◌, T, leb, length};
+ghost use Rattle.std.specs.Prelude.{◌≡◌, true, ◌+◌, ◌≤◌, T, leb, length};
+ghost use Rattle.std.specs.List.{list_all};
 ghost use Rattle.columns.specs.Widths.{largest};
 ghost use Rattle.graphs.specs.Lists.{all_of};
 ghost use Rattle.automata.specs.WellFormed.{inside};
-ghost use Rattle.refusals.specs.Judged.{refusal};
+ghost use Rattle.refusals.specs.Judged.{refusal, verdict};
 ghost use Rattle.fields.specs.LineRead.{judge_read};
 ghost use Rattle.reader.specs.TableRules.{at, kind_of, has_term, kind_at, expected, fit_from, in_range, judge_values, judge_line, advance, further, placed, complete};
-ghost use Rattle.reader.specs.Table.{blank_form, read_form, read_table, read_target};
+ghost use Rattle.reader.specs.Table.{Read, table_rules, blank_form, read_form, read_table, read_target};
 ghost use Rattle.reader.specs.TableReply.{Filled};
-ghost use Rattle.reader.specs.TableRead.{lines_from, Small};
+ghost use Rattle.reader.specs.TableRead.{Small, small_weaken};
 
 use columns::Sheet;
-use fields::Line;
+use fields::Rules;
 use forms::Form;
 use refusals::Refusal;
 
-// How far a table is read. Locations are document 01's places, transitions its arcs.
-#[derive(Clone, Copy)]
+// How far a table is read, from nothing on. Locations are document 01's places, transitions its arcs.
+#[derive(Clone, Copy, Default)]
 pub struct Progress {
     // the counts of line 1
     pub registers: u32,
@@ -42,31 +43,19 @@ pub struct Progress {
     pub newest: u32,
 }
 
-fn at_most(n: u64, most: u32) -> bool
-    ensures { result ≡ leb n most }
-{
-    n <= most as u64
-}
-
-// The number n counts from 1 up to most.
-fn in_count(n: u64, most: u32) -> bool
-    ensures { result ≡ inside most n }
-{
-    (1 <= n) & at_most(n, most)
-}
-
 // The table has the term of kind k and number n here.
+#[tactic(auto, unfolding(crate::specs::TableRules::has_term))]
 fn has_term(p: Progress, k: u64, n: u64) -> bool
     ensures { result ≡ has_term p k n }
 {
-    let register = (k == 1) & in_count(n, p.registers);
-    let parameter = (k == 2) & in_count(n, p.params);
-    let constant = (k == 3) & in_count(n, p.constants);
+    let register = (k == 1) & fields::in_count(n, p.registers);
+    let parameter = (k == 2) & fields::in_count(n, p.params);
+    let constant = (k == 3) & fields::in_count(n, p.constants);
     register | parameter | constant
 }
 
 // What the table of kinds says of a line here, but for the ranges of its fields.
-#[derive(Clone, Copy)]
+#[derive(Clone, Copy, Default)]
 pub struct Kind {
     // how many fields it has
     pub fields: usize,
@@ -84,90 +73,93 @@ pub struct Kind {
     pub row: usize,
 }
 
-fn kind_with(
-    fields: usize,
-    from: u32,
-    to: u32,
-    next: u32,
-    due: bool,
-    condition: bool,
-    rising: bool,
-    row: usize,
-) -> Kind
-    ensures { result ≡ record { fields = fields; from = from; to = to; next = next; due = due; condition = condition; rising = rising; row = row } }
-{
-    Kind {
-        fields: fields,
-        from: from,
-        to: to,
-        next: next,
-        due: due,
-        condition: condition,
-        rising: rising,
-        row: row,
-    }
-}
-
 // The kind k of a line with the first number n.
+#[tactic(auto, using(crate::proofs::Bounds::other), unfolding(crate::specs::TableRules::kind_at))]
 fn kind_at(p: Progress, k: u64, n: u32) -> Kind
     requires { Small p 50000 }
     ensures { result ≡ kind_at p k n }
 {
-    let constant = p.ids < p.constants;
-    let action = (p.constants <= p.ids) & (p.acts < p.actions);
-    let start = p.actions <= p.acts;
-    let transition = p.transition < p.transitions;
-    let ids = p.ids as usize;
-    let acts = p.acts as usize;
     let conds = p.conds as usize;
-    let rows = forms::ROWS_EACH * (p.transition as usize);
     let place = forms::ROWS_EACH * (p.place as usize);
     match k {
-        1 => kind_with(6, 0, 0, 1, true, false, false, forms::COUNTS_ROW),
-        2 => kind_with(
-            2,
-            1,
-            2,
-            2,
-            constant,
-            false,
-            true,
-            forms::CONSTANT_ROWS + ids,
-        ),
-        3 => kind_with(2, 1, 3, 3, action, false, false, forms::ACTION_ROWS + acts),
-        4 => kind_with(2, 3, 3, 4, start, false, false, forms::START_ROW),
-        5 => kind_with(6, 4, 4, 4, true, true, false, forms::STARTING_ROWS + conds),
-        6 => kind_with(
-            4,
-            4,
-            6,
-            5,
-            transition,
-            false,
-            false,
-            forms::TRANSITION_ROWS + rows,
-        ),
-        7 => kind_with(
-            6,
-            5,
-            5,
-            5,
-            true,
-            true,
-            false,
-            forms::GUARD_ROWS + place + conds,
-        ),
-        8 => kind_with(
-            4,
-            5,
-            6,
-            6,
-            true,
-            false,
-            true,
-            forms::ASSIGNMENT_ROWS + place + n as usize - 1,
-        ),
-        _ => kind_with(1, 0, 0, 0, false, false, false, 0),
+        1 => Kind {
+            fields: 6,
+            next: 1,
+            due: true,
+            row: forms::COUNTS_ROW,
+            ..Kind::default()
+        },
+        2 => Kind {
+            fields: 2,
+            from: 1,
+            to: 2,
+            next: 2,
+            due: p.ids < p.constants,
+            rising: true,
+            row: forms::CONSTANT_ROWS + p.ids as usize,
+            ..Kind::default()
+        },
+        3 => Kind {
+            fields: 2,
+            from: 1,
+            to: 3,
+            next: 3,
+            due: (p.constants <= p.ids) & (p.acts < p.actions),
+            row: forms::ACTION_ROWS + p.acts as usize,
+            ..Kind::default()
+        },
+        4 => Kind {
+            fields: 2,
+            from: 3,
+            to: 3,
+            next: 4,
+            due: p.actions <= p.acts,
+            row: forms::START_ROW,
+            ..Kind::default()
+        },
+        5 => Kind {
+            fields: 6,
+            from: 4,
+            to: 4,
+            next: 4,
+            due: true,
+            condition: true,
+            row: forms::STARTING_ROWS + conds,
+            ..Kind::default()
+        },
+        6 => Kind {
+            fields: 4,
+            from: 4,
+            to: 6,
+            next: 5,
+            due: p.transition < p.transitions,
+            row: forms::TRANSITION_ROWS + forms::ROWS_EACH * (p.transition as usize),
+            ..Kind::default()
+        },
+        7 => Kind {
+            fields: 6,
+            from: 5,
+            to: 5,
+            next: 5,
+            due: true,
+            condition: true,
+            row: forms::GUARD_ROWS + place + conds,
+            ..Kind::default()
+        },
+        8 => Kind {
+            fields: 4,
+            from: 5,
+            to: 6,
+            next: 6,
+            due: true,
+            rising: true,
+            row: forms::ASSIGNMENT_ROWS + place + n as usize - 1,
+            ..Kind::default()
+        },
+        _ => Kind {
+            fields: 1,
+            ..Kind::default()
+        },
     }
 }
 
@@ -180,17 +172,13 @@ fn may_stand(p: Progress, k: Kind, n: usize) -> bool
 
 // No number is larger than an identifier can be.
 fn are_issued(f: [u64; 6]) -> bool
-    ensures { result ≡ all_of (λ v. leb v largest) f }
+    ensures { result ≡ list_all (λ v. leb v largest) f }
 {
-    (f[0] <= columns::LARGEST)
-        & (f[1] <= columns::LARGEST)
-        & (f[2] <= columns::LARGEST)
-        & (f[3] <= columns::LARGEST)
-        & (f[4] <= columns::LARGEST)
-        & (f[5] <= columns::LARGEST)
+    f.iter().all(|v| *v <= columns::LARGEST)
 }
 
 // The fields of a line of its kind are in their ranges.
+#[tactic(auto, using(crate::proofs::Bounds::other))]
 fn are_fit(p: Progress, f: [u64; 6]) -> bool
     ensures { result ≡ fit_from p true (kind_of (at f 0)).fields f 1 }
 {
@@ -200,14 +188,16 @@ fn are_fit(p: Progress, f: [u64; 6]) -> bool
     let d = f[4];
     let e = f[5];
     match f[0] {
-        1 => (a <= 5) & (b <= 2) & in_count(c, 16) & in_count(d, 16) & (e <= 64),
+        1 => (a <= 5) & (b <= 2) & fields::in_count(c, 16) & fields::in_count(d, 16) & (e <= 64),
         2 => true,
         3 => a <= 3,
-        4 => in_count(a, p.locations),
-        5 => has_term(p, a, b) & in_count(c, 2) & has_term(p, d, e),
-        6 => in_count(a, p.locations) & in_count(b, p.actions) & in_count(c, p.locations),
-        7 => has_term(p, a, b) & in_count(c, 2) & has_term(p, d, e),
-        8 => in_count(a, p.registers) & has_term(p, b, c),
+        4 => fields::in_count(a, p.locations),
+        5 => has_term(p, a, b) & fields::in_count(c, 2) & has_term(p, d, e),
+        6 => fields::in_count(a, p.locations)
+            & fields::in_count(b, p.actions)
+            & fields::in_count(c, p.locations),
+        7 => has_term(p, a, b) & fields::in_count(c, 2) & has_term(p, d, e),
+        8 => fields::in_count(a, p.registers) & has_term(p, b, c),
         _ => true,
     }
 }
@@ -219,79 +209,73 @@ fn has_range(p: Progress, f: [u64; 6]) -> bool
     are_issued(f) & are_fit(p, f)
 }
 
-// The refusal of a line of kind k that may stand here, or 0.
-fn judge_values(p: Progress, k: Kind, f: [u64; 6]) -> u32
-    ensures { result ≡ judge_values p k f }
+// Judges a line of kind k that may stand here: the number of its refusal is the error.
+#[tactic(auto, unfolding(crate::specs::TableRules::judge_values))]
+fn judge_values(p: Progress, k: Kind, f: [u64; 6]) -> Result<(), u32>
+    ensures { result ≡ verdict (judge_values p k f) }
 {
     if k.condition & (8 <= p.conds) {
-        return 6;
+        return Err(6);
     }
-    if has_range(p, f) {
-        let behind = at_most(f[1], p.newest);
-        if !(k.rising & (p.stage == k.next) & behind) {
-            return 0;
-        }
-        return 4;
+    if !has_range(p, f) {
+        return Err(if f[0] == 1 { 3 } else { 5 });
     }
-    if f[0] == 1 {
-        return 3;
+    if k.rising & (p.stage == k.next) & (f[1] <= u64::from(p.newest)) {
+        return Err(4);
     }
-    5
+    Ok(())
 }
 
-// The refusal of a line of n fields, or 0.
-fn judge_fields(p: Progress, n: usize, f: [u64; 6]) -> u32
+// Judges a line of n fields.
+fn judge_fields(p: Progress, n: usize, f: [u64; 6]) -> Result<(), u32>
     requires { Small p 50000 }
-    ensures { result ≡ judge_line p n f }
+    ensures { result ≡ verdict (judge_line p n f) }
 {
     // the row is not asked for
     let k = kind_at(p, f[0], 0);
-    if may_stand(p, k, n) {
-        return judge_values(p, k, f);
+    if !may_stand(p, k, n) {
+        return Err(2);
     }
-    2
-}
-
-// The refusal of a line as it is read, with the numbers f, or 0.
-fn judge_line(p: Progress, l: Line, f: [u64; 6]) -> u32
-    requires { Small p 50000 }
-    ensures { result ≡ judge_read (judge_line p) l f }
-{
-    match l {
-        Line::Fields(n) => judge_fields(p, n, f),
-        Line::Spoilt => 2,
-    }
-}
-
-fn pick(c: bool, a: u32, b: u32) -> u32
-    ensures { result ≡ cond c a b }
-{
-    if c { a } else { b }
+    judge_values(p, k, f)
 }
 
 // The progress after a line of kind k that is accepted. The action of a line 6 has a parameters.
+#[tactic(auto, unfolding(crate::specs::TableRules::advance))]
 fn advanced(p: Progress, k: Kind, f: [u32; 6], a: u32) -> Progress
     requires { Small p 50000 }
     ensures { result ≡ advance p k f a }
 {
-    let line = f[0];
-    let first = f[1];
-    let head = line == 1;
-    let new = line == 6;
-    Progress {
-        registers: pick(head, first, p.registers),
-        constants: pick(head, f[2], p.constants),
-        locations: pick(head, f[3], p.locations),
-        actions: pick(head, f[4], p.actions),
-        transitions: pick(head, f[5], p.transitions),
+    let next = Progress {
         stage: k.next,
-        ids: pick(line == 2, p.ids + 1, p.ids),
-        acts: pick(line == 3, p.acts + 1, p.acts),
-        transition: pick(new, p.transition + 1, p.transition),
-        place: pick(new, p.transition, p.place),
-        conds: pick(new, 0, pick(k.condition, p.conds + 1, p.conds)),
-        params: pick(new, a, p.params),
-        newest: pick(k.rising, first, p.newest),
+        conds: if k.condition { p.conds + 1 } else { p.conds },
+        newest: if k.rising { f[1] } else { p.newest },
+        ..p
+    };
+    match f[0] {
+        1 => Progress {
+            registers: f[1],
+            constants: f[2],
+            locations: f[3],
+            actions: f[4],
+            transitions: f[5],
+            ..next
+        },
+        2 => Progress {
+            ids: p.ids + 1,
+            ..next
+        },
+        3 => Progress {
+            acts: p.acts + 1,
+            ..next
+        },
+        6 => Progress {
+            transition: p.transition + 1,
+            place: p.transition,
+            conds: 0,
+            params: a,
+            ..next
+        },
+        _ => next,
     }
 }
 
@@ -300,123 +284,75 @@ fn row_of(f: [u64; 6]) -> [u32; 6]
     requires { T (all_of (λ v. leb v largest) f) }
     ensures { result ≡ f }
 {
-    [
-        fields::narrow(f[0]),
-        fields::narrow(f[1]),
-        fields::narrow(f[2]),
-        fields::narrow(f[3]),
-        fields::narrow(f[4]),
-        fields::narrow(f[5]),
-    ]
-}
-
-// A line is accepted: its numbers go to its row.
-fn accept(p: Progress, f: [u32; 6], t: &mut [u32]) -> Progress
-    requires { Small p 50000 }
-    ensures { (result ≡ further p f t.old) × (t.new ≡ placed p f t.old) }
-{
-    let action = f[2] as usize;
-    let params = forms::cell(t, forms::ARITY_ROWS + action, 1);
-    let k = kind_at(p, f[0] as u64, f[1]);
-    forms::put_row(t, k.row, f);
-    advanced(p, k, f, params)
-}
-
-#[derive(Clone, Copy)]
-pub enum Reply {
-    Accepted,
-    Refused(Refusal),
-}
-
-// The table may end here.
-fn is_complete(p: Progress) -> bool
-    ensures { result ≡ complete p }
-{
-    (4 <= p.stage) & (p.transitions <= p.transition)
-}
-
-// The refusal of the line after these.
-fn refused_after(lines: u32, number: u32, file: u32) -> Reply
-    requires { lines ≤ 50000 }
-    ensures { result ≡ Reply.Refused (refusal number file (lines + 1)) }
-{
-    Reply::Refused(Refusal {
-        number: number,
-        file: file,
-        line: lines + 1,
-    })
-}
-
-// The whole file, line after line.
-fn read_lines(from: Progress, file: u32, s: &[u8], t: &mut [u32]) -> Reply
-    requires { (length s.now ≤ 40000) × Small from 0 }
-    ensures { Filled (lines_from file from t.old s.now) result t.new }
-{
-    let mut p = from;
-    let mut lines: u32 = 0;
-    let mut i = 0;
-    while i < s.len() {
-        let end = fields::line_end(s, i);
-        if s.len() <= end {
-            return refused_after(lines, 2, file);
-        }
-        let mut f = [0u64; 6];
-        let l = fields::read_line(Sheet::Table, s, i, end, &mut f);
-        let n = judge_line(p, l, f);
-        if n != 0 {
-            return refused_after(lines, n, file);
-        }
-        let row = row_of(f);
-        p = accept(p, row, t);
-        lines += 1;
-        i = end + 1;
+    let mut row = [0u32; 6];
+    for i in 0..6 {
+        row[i] = fields::narrow(f[i]);
     }
-    if is_complete(p) {
-        return Reply::Accepted;
+    row
+}
+
+impl Rules for Progress {
+    ghost Read = { Read };
+
+    ghost read = { λ p t. record { progress = p; form = t } };
+
+    ghost rules = { λ _. table_rules };
+
+    ghost Small = { Small };
+
+    fn sheet(&self) -> Sheet {
+        Sheet::Table
     }
-    refused_after(lines, 2, file)
+
+    fn judge(&self, n: Option<usize>, f: [u64; 6]) -> Result<(), u32> {
+        judge_fields(*self, n.ok_or(2u32)?, f)
+    }
+
+    // The numbers of the line go to its row.
+    fn accept(&mut self, f: [u64; 6], t: &mut [u32]) {
+        let f = row_of(f);
+        let action = f[2] as usize;
+        let params = forms::cell(t, forms::ARITY_ROWS + action, 1);
+        let k = kind_at(*self, f[0] as u64, f[1]);
+        forms::put_row(t, k.row, f);
+        *self = advanced(*self, k, f, params);
+    }
+
+    #[tactic(auto, unfolding(crate::specs::TableRules::complete))]
+    fn is_complete(&self) -> bool {
+        (4 <= self.stage) & (self.transitions <= self.transition)
+    }
+
+    fn refusal_after(lines: u32, number: u32, file: u32) -> Refusal {
+        Refusal {
+            number,
+            file,
+            line: lines + 1,
+        }
+    }
+
+    ghost weaken = { small_weaken };
 }
 
 // Reads the lines of a file to the form t, which has none.
-fn read_file(p: Progress, file: u32, limit: usize, s: &[u8], t: &mut Form) -> Reply
+fn read_file(p: Progress, file: u32, limit: usize, s: &[u8], t: &mut Form) -> Result<(), Refusal>
     requires { (limit ≤ 40000) × Small p 0 × (t.old ≡ blank_form) }
     ensures { Filled (read_form file limit p s.now) result t.new }
 {
-    if limit < s.len() {
-        return Reply::Refused(Refusal {
-            number: 1,
-            file: file,
-            line: 0,
-        });
-    }
-    read_lines(p, file, s, t)
+    let mut p = p;
+    fields::read_file(&mut p, file, limit, s, t)
 }
 
 // Reads a table to the form t, which has no lines.
-pub fn read_table(s: &[u8], t: &mut Form) -> Reply
+pub fn read_table(s: &[u8], t: &mut Form) -> Result<(), Refusal>
     requires { t.old ≡ blank_form }
     ensures { Filled (read_table s.now) result t.new }
 {
-    let p = Progress {
-        registers: 0,
-        constants: 0,
-        locations: 0,
-        actions: 0,
-        transitions: 0,
-        stage: 0,
-        ids: 0,
-        acts: 0,
-        transition: 0,
-        place: 0,
-        conds: 0,
-        params: 0,
-        newest: 0,
-    };
-    read_file(p, 1, 40000, s, t)
+    read_file(Progress::default(), 1, 40000, s, t)
 }
 
 // Reads a target of the table with the form `table` to the form t, which has no lines.
-pub fn read_target(table: &[u32], s: &[u8], t: &mut Form) -> Reply
+pub fn read_target(table: &[u32], s: &[u8], t: &mut Form) -> Result<(), Refusal>
     requires { t.old ≡ blank_form }
     ensures { Filled (read_target table.now s.now) result t.new }
 {
@@ -424,16 +360,8 @@ pub fn read_target(table: &[u32], s: &[u8], t: &mut Form) -> Reply
         registers: forms::cell(table, forms::COUNTS_ROW, forms::REGISTERS),
         constants: forms::cell(table, forms::COUNTS_ROW, forms::CONSTANTS),
         locations: forms::cell(table, forms::COUNTS_ROW, forms::LOCATIONS),
-        actions: 0,
-        transitions: 0,
         stage: 3,
-        ids: 0,
-        acts: 0,
-        transition: 0,
-        place: 0,
-        conds: 0,
-        params: 0,
-        newest: 0,
+        ..Progress::default()
     };
     read_file(p, 2, 309, s, t)
 }

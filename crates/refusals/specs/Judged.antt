@@ -1,6 +1,6 @@
 -- The order of refusals: an input is judged by one test after the other, and the first that turns it back gives the refusal. This is what a reader believes.
 -- Assumes nothing.
-use Rattle.std.specs.Prelude.{ℕ, Bool, cond, List, [], ◌∷◌}
+use Rattle.std.specs.Prelude.{ℕ, zero, suc, Bool, cond, List, [], ◌∷◌, Result, Ok, Err}
 use Rattle.refusals.specs.declared.Refusal.{Refusal}
 
 -- the refusal of this number, in this file (1 the table, 2 the other, 0 none), at this line (0: none)
@@ -10,6 +10,11 @@ refusal number file line = record { number = number; file = file; line = line }
 -- document 01's numbers of a refusal
 abbrev pub refusal_numbers : Refusal → List ℕ
 refusal_numbers r = r.number ∷ r.file ∷ r.line ∷ []
+
+-- a judgement by number, 0 where it accepts, as code returns it
+abbrev pub verdict : ℕ → Result (Unit {0}) ℕ
+verdict zero = Ok tt
+verdict (suc n) = Err (suc n)
 
 -- what is read from an input, or its refusal
 pub data Judged (A : Type 0) : Type 0 where

@@ -7,7 +7,7 @@ ghost use Rattle.forms.specs.Readable.{Readable};
 ghost use Rattle.forms.specs.Slots.{Fits};
 ghost use Rattle.replay.specs.Judge.{judge, judge_flat};
 ghost use Rattle.replay.specs.RunForm.{rest_zero, Whole, step_from};
-ghost use Rattle.replay.specs.Progress.{begun, stopped, advanced, judged, slot_values, assigned_slots, made_by};
+ghost use Rattle.replay.specs.Progress.{begun, advanced, judged, slot_values, assigned_slots, made_by};
 
 use forms::Arc;
 
@@ -19,38 +19,29 @@ pub struct Step {
     pub next: [u32; 5],
 }
 
+// Stays: a reply of the checker is a Result of this or a refusal, and one Result in another would be no plainer.
 #[derive(Clone, Copy)]
 pub enum Verdict {
     Good,
     Bad(usize),
 }
 
-// How far the replay is: the place and contents, or, once it is bad, the first bad moment.
+// Where a good run stands: a location and the contents.
 #[derive(Clone, Copy)]
-pub struct Progress {
+pub struct Stand {
     pub place: u32,
     pub contents: [u32; 5],
-    pub bad: bool,
+}
+
+// Where a run that is bad stood last, and the first bad moment.
+#[derive(Clone, Copy)]
+pub struct Stop {
+    pub stand: Stand,
     pub moment: usize,
 }
 
-fn wide(x: u32) -> usize
-    ensures { result ≡ x }
-{
-    x as usize
-}
-
-fn wide8(x: u8) -> usize
-    ensures { result ≡ x }
-{
-    x as usize
-}
-
-fn place_of(x: u8) -> u32
-    ensures { result ≡ x }
-{
-    x as u32
-}
+// How far the replay is: where the run stands, or, once it is bad, where it stopped.
+pub type Progress = Result<Stand, Stop>;
 
 // The values of constants, registers and parameters, in their slots.
 fn slot_values(constants: [u32; 2], contents: [u32; 5], params: [u32; 3]) -> [u32; 10]
@@ -74,23 +65,7 @@ fn slot_values(constants: [u32; 2], contents: [u32; 5], params: [u32; 3]) -> [u3
 fn rest_zero(xs: &[u32], n: usize) -> bool
     ensures { result ≡ rest_zero n xs.now }
 {
-    let mut i = n;
-    while i < xs.len() {
-        if xs[i] != 0 {
-            return false;
-        }
-        i += 1;
-    }
-    true
-}
-
-fn assigned(old: &[u32; 10], new: &[u32; 10], source: u8, target: u8) -> bool
-    requires { (source < 10) × (target < 10) }
-    ensures { result ≡ eqb (get_or new.now target 0) (get_or old.now source 0) }
-{
-    let s = source as usize;
-    let t = target as usize;
-    new[t] == old[s]
+    xs.iter().skip(n).all(|x| *x == 0)
 }
 
 // Whether the new values hold in the first n target slots what the old ones have in the source slots.
@@ -104,11 +79,8 @@ fn assigned_slots(
     requires { (n ≤ 5) × ((i : ℕ) → get_or source i 0 < 10) × ((i : ℕ) → get_or target i 0 < 10) }
     ensures { result ≡ assigned_slots old.now new.now n source target }
 {
-    let mut i = 0;
-    while i < n {
-        if assigned(old, new, source[i], target[i]) {
-            i += 1;
-        } else {
+    for i in 0..n {
+        if new[usize::from(target[i])] != old[usize::from(source[i])] {
             return false;
         }
     }
@@ -119,46 +91,20 @@ fn assigned_slots(
 fn tidy(s: Step, params: usize, registers: usize) -> bool
     ensures { result ≡ (rest_zero params s.params && rest_zero registers s.next) }
 {
-    let used = s.params;
-    let next = s.next;
-    rest_zero(&used, params) & rest_zero(&next, registers)
+    rest_zero(&s.params, params) & rest_zero(&s.next, registers)
 }
 
-// Whether the transition makes the step from this place and these contents, and the unused slots are 0.
-fn made(
-    constants: [u32; 2],
-    registers: usize,
-    x: Arc,
-    place: u32,
-    contents: [u32; 5],
-    s: Step,
-) -> bool
+// Whether the transition makes the step from here, and the unused slots are 0.
+fn made(constants: [u32; 2], registers: usize, x: Arc, here: Stand, s: Step) -> bool
     requires { Fits x }
-    ensures { result ≡ made_by constants registers x place contents s }
+    ensures { result ≡ made_by constants registers x here.place here.contents s }
 {
-    let params = s.params;
-    let next = s.next;
-    let guard = x.guard;
-    let source = x.source;
-    let target = x.target;
-    let old = slot_values(constants, contents, params);
-    let new = slot_values(constants, next, params);
-    let leaves = place_of(x.from) == place;
-    let met = forms::holds(guard, &old);
-    let moved = assigned_slots(&old, &new, wide8(x.sets), source, target);
-    leaves & met & moved & tidy(s, wide8(x.params), registers)
-}
-
-fn stop(p: Progress, moment: usize) -> Progress
-    ensures { result ≡ stopped p moment }
-{
-    let contents = p.contents;
-    Progress {
-        place: p.place,
-        contents: contents,
-        bad: true,
-        moment: moment,
-    }
+    let old = slot_values(constants, here.contents, s.params);
+    let new = slot_values(constants, s.next, s.params);
+    let leaves = u32::from(x.from) == here.place;
+    let met = forms::holds(x.guard, &old);
+    let moved = assigned_slots(&old, &new, usize::from(x.sets), x.source, x.target);
+    leaves & met & moved & tidy(s, usize::from(x.params), registers)
 }
 
 // The replay at its start, which is moment 0.
@@ -166,16 +112,16 @@ pub fn started(form: &[u32], start: [u32; 5]) -> Progress
     requires { Readable form.now }
     ensures { result ≡ begun (automaton_of form.now) start }
 {
-    let guard = forms::target_guard(form);
     let vals = slot_values(forms::constant_values(form), start, [0, 0, 0]);
-    let met = forms::holds(guard, &vals);
-    let tidy = rest_zero(&start, forms::registers(form));
-    let place = forms::start(form);
-    Progress {
-        place: place as u32,
+    let met = forms::holds(forms::target_guard(form), &vals);
+    let stand = Stand {
+        place: forms::start(form) as u32,
         contents: start,
-        bad: !(met & tidy),
-        moment: 0,
+    };
+    if met & rest_zero(&start, forms::registers(form)) {
+        Ok(stand)
+    } else {
+        Err(Stop { stand, moment: 0 })
     }
 }
 
@@ -184,41 +130,37 @@ pub fn advance(form: &[u32], p: Progress, moment: usize, s: Step) -> Progress
     requires { Readable form.now }
     ensures { result ≡ advanced (automaton_of form.now) p moment s }
 {
-    let bad = p.bad;
-    if bad {
-        return p;
-    }
-    let arc = wide(s.arc);
-    if arc == 0 {
-        return stop(p, moment);
-    }
-    if forms::transitions(form) < arc {
-        return stop(p, moment);
+    let here = p?;
+    let arc = s.arc as usize;
+    if arc == 0 || forms::transitions(form) < arc {
+        return Err(Stop {
+            stand: here,
+            moment,
+        });
     }
     let x = forms::arc_at(form, arc - 1);
     let constants = forms::constant_values(form);
-    let contents = p.contents;
-    if made(constants, forms::registers(form), x, p.place, contents, s) {
-        let next = s.next;
-        Progress {
-            place: place_of(x.to),
-            contents: next,
-            bad: false,
-            moment: moment,
-        }
+    if made(constants, forms::registers(form), x, here, s) {
+        let contents = s.next;
+        Ok(Stand {
+            place: u32::from(x.to),
+            contents,
+        })
     } else {
-        stop(p, moment)
+        Err(Stop {
+            stand: here,
+            moment,
+        })
     }
 }
 
 pub fn verdict_of(p: Progress) -> Verdict
     ensures { result ≡ judged p }
 {
-    let bad = p.bad;
-    if bad {
-        return Verdict::Bad(p.moment);
+    match p {
+        Ok(_) => Verdict::Good,
+        Err(stop) => Verdict::Bad(stop.moment),
     }
-    Verdict::Good
 }
 
 // The five start contents.
@@ -234,12 +176,10 @@ fn step_of(run: &[u32]) -> Step
     requires { 9 ≤ length run.now }
     ensures { result ≡ step_from run.now }
 {
-    let params = [run[1], run[2], run[3]];
-    let next = [run[4], run[5], run[6], run[7], run[8]];
     Step {
         arc: run[0],
-        params: params,
-        next: next,
+        params: [run[1], run[2], run[3]],
+        next: [run[4], run[5], run[6], run[7], run[8]],
     }
 }
 
@@ -249,27 +189,21 @@ pub fn replay(form: &[u32], run: &[u32]) -> Verdict
     ensures { result ≡ judge_flat (automaton_of form.now) run.now }
 {
     let mut p = started(form, start_of(run));
-    let mut moment = 0;
-    let mut i = 5;
-    while i < run.len() {
-        moment += 1;
-        p = advance(form, p, moment, step_of(&run[i..]));
-        i += 9;
+    for (i, step) in run[5..].chunks_exact(9).enumerate() {
+        p = advance(form, p, i + 1, step_of(step));
     }
     verdict_of(p)
 }
 
 // Judges a run that is lent as steps: each is taken out and handed on by value.
+// Stays: one loop for both forms would be generic over an iterator of steps, whose contract is longer than the loop.
 pub fn replay_steps(form: &[u32], start: [u32; 5], run: &[Step]) -> Verdict
     requires { Readable form.now }
     ensures { result ≡ judge (automaton_of form.now) start run.now }
 {
     let mut p = started(form, start);
-    let mut i = 0;
-    while i < run.len() {
-        let s = run[i];
-        i += 1;
-        p = advance(form, p, i, s);
+    for (i, s) in run.iter().enumerate() {
+        p = advance(form, p, i + 1, *s);
     }
     verdict_of(p)
 }

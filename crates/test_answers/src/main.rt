@@ -1,6 +1,7 @@
 // Prints the answers for the cases of the data folder, one after another: a line with the case's number, then its printout.
 #![tactic(auto)]
 
+use std::io;
 use std::rt::Files;
 
 // The files 01.table, 01.target, 02.table, .. (the engine's src/trials/answers.rs says what each case is). Cases 1 to 10, 18, 19 and 37 to 43 have a target, 22 to 36, 46 and 47 a question as text (22.text), the others a question.
@@ -12,7 +13,7 @@ fn digit(n: u32) -> u8 {
 }
 
 // A case of a target.
-fn reach_case<R: Files + Print>(rt: &R, a: u8, b: u8) -> bool {
+fn reach_case<R: Files + Print>(rt: &R, a: u8, b: u8) -> io::Result<()> {
     printout::print_reaching(
         rt,
         &[a, b, b'.', b't', b'a', b'b', b'l', b'e'],
@@ -21,7 +22,7 @@ fn reach_case<R: Files + Print>(rt: &R, a: u8, b: u8) -> bool {
 }
 
 // A case of a question.
-fn ask_case<R: Files + Print>(rt: &R, a: u8, b: u8) -> bool {
+fn ask_case<R: Files + Print>(rt: &R, a: u8, b: u8) -> io::Result<()> {
     printout::print_asking(
         rt,
         &[a, b, b'.', b't', b'a', b'b', b'l', b'e'],
@@ -30,7 +31,7 @@ fn ask_case<R: Files + Print>(rt: &R, a: u8, b: u8) -> bool {
 }
 
 // A case of a question as text.
-fn text_case<R: Files + Print>(rt: &R, a: u8, b: u8) -> bool {
+fn text_case<R: Files + Print>(rt: &R, a: u8, b: u8) -> io::Result<()> {
     printout::print_asking_text(
         rt,
         &[a, b, b'.', b't', b'a', b'b', b'l', b'e'],
@@ -39,17 +40,15 @@ fn text_case<R: Files + Print>(rt: &R, a: u8, b: u8) -> bool {
 }
 
 fn has_target(i: u32) -> bool {
-    (i <= 10) | (i == 18) | (i == 19) | ((37 <= i) & (i <= 43))
+    i <= 10 || matches!(i, 18 | 19 | 37..=43)
 }
 
 fn has_text(i: u32) -> bool {
-    ((22 <= i) & (i <= 36)) | (46 <= i)
+    matches!(i, 22..=36) || 46 <= i
 }
 
-fn show<R: Files + Print>(rt: &R, i: u32) -> bool {
-    if !printout::print_line(rt, i) {
-        return false;
-    }
+fn show<R: Files + Print>(rt: &R, i: u32) -> io::Result<()> {
+    printout::print_line(rt, i)?;
     let a = digit(i / 10);
     let b = digit(i);
     if has_target(i) {
@@ -61,13 +60,15 @@ fn show<R: Files + Print>(rt: &R, i: u32) -> bool {
     ask_case(rt, a, b)
 }
 
-fn main(rt: HostRuntime) {
-    let mut i = 1;
-    while i <= CASES {
-        if show(&rt, i) {
-            i += 1;
-        } else {
-            return;
-        }
+// All cases, as long as they can be written.
+fn show_all<R: Files + Print>(rt: &R) -> io::Result<()> {
+    for i in 1..=CASES {
+        show(rt, i)?;
     }
+    Ok(())
+}
+
+// A write that fails ends the printout, and is told to nobody.
+fn main(rt: HostRuntime) {
+    let _ = show_all(&rt);
 }

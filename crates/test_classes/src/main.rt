@@ -3,7 +3,7 @@
 // All of a reply is compared, and all of a buffer of which the first part is lent.
 #![tactic(auto)]
 
-use checker::{Number, Refusal, Written};
+use checker::Refusal;
 use std::io;
 use std::io::Read;
 use std::rt::Files;
@@ -29,24 +29,24 @@ fn refused(h: u64, r: Refusal) -> Outcome {
     }
 }
 
-fn of_number(reply: Number) -> Outcome {
+fn of_number(reply: Result<usize, Refusal>) -> Outcome {
     match reply {
-        Number::Is(n) => Outcome {
+        Ok(n) => Outcome {
             reply: 0,
             digest: trial::mix_wide(START, n as u64),
         },
-        Number::Refused(r) => refused(START, r),
+        Err(r) => refused(START, r),
     }
 }
 
 // With the digest of the buffer.
-fn of_written(reply: Written, h: u64) -> Outcome {
+fn of_written(reply: Result<(), Refusal>, h: u64) -> Outcome {
     match reply {
-        Written::Done => Outcome {
+        Ok(()) => Outcome {
             reply: 0,
             digest: h,
         },
-        Written::Refused(r) => refused(h, r),
+        Err(r) => refused(h, r),
     }
 }
 
@@ -76,8 +76,8 @@ fn matrix_of(
     room: usize,
     out: &mut [u8],
 ) -> Outcome {
-    let reply = checker::matrix_of(registers, constants, contents, trial::lend8(out, room));
-    of_written(reply, trial::digest8(START, out))
+    let reply = checker::matrix_of(registers, constants, contents, trial::lend(out, room));
+    of_written(reply, trial::digest(START, out))
 }
 
 fn matrix_of_class(
@@ -87,8 +87,8 @@ fn matrix_of_class(
     room: usize,
     out: &mut [u8],
 ) -> Outcome {
-    let reply = checker::matrix_of_class(registers, constants, class, trial::lend8(out, room));
-    of_written(reply, trial::digest8(START, out))
+    let reply = checker::matrix_of_class(registers, constants, class, trial::lend(out, room));
+    of_written(reply, trial::digest(START, out))
 }
 
 fn class_of_matrix(registers: u32, constants: u32, matrix: &[u8]) -> Outcome {
@@ -201,7 +201,7 @@ fn try_case<F: Read>(
         header,
         trial::front(&constants, c),
         trial::front(&contents, n),
-        trial::front8(&matrix, m),
+        trial::front(&matrix, m),
     );
     count(rt, counts, header, case, seen)
 }
@@ -221,30 +221,13 @@ fn next_case<F: Read>(
     Ok(true)
 }
 
-// All cases of an open file, a thousand at most.
-fn try_cases<F: Read>(rt: &impl Print, file: &mut F, counts: &mut [u32]) -> io::Result<()> {
-    let mut case = 1;
-    while case <= 1000 {
-        if next_case(rt, file, counts, case)? {
-            case += 1;
-        } else {
-            return Ok(());
-        }
-    }
-    Ok(())
-}
-
-fn show_counts(rt: &impl Print, name: &[u8], counts: &[u32; 8]) -> io::Result<()> {
-    trial::show(rt, name, counts)
-}
-
 // A call: its file has its name.
 fn group<R: Files + Print>(rt: &R, path: &[u8], name: &[u8]) -> io::Result<()> {
     let mut counts = [0u32; 8];
     if let Some(mut file) = trial::open(rt, path) {
-        try_cases(rt, &mut file, &mut counts)?;
+        trial::each_case(|case| next_case(rt, &mut file, &mut counts, case))?;
     }
-    show_counts(rt, name, &counts)
+    trial::show(rt, name, &counts)
 }
 
 // The entries of a matrix.
@@ -297,7 +280,7 @@ fn sweep_matrix(h: u64, registers: u32, constants: &[u32], count: u32, class: us
         room(square(registers), class),
         &mut matrix,
     );
-    let entries = trial::front8(&matrix, square(registers));
+    let entries = trial::front(&matrix, square(registers));
     let b = class_of_matrix(registers, count, entries);
     let c = contents_of_matrix(registers, constants, entries, room(r, class), &mut contents);
     trial::mix_wide(
@@ -310,11 +293,9 @@ fn sweep_matrix(h: u64, registers: u32, constants: &[u32], count: u32, class: us
 fn sweep(registers: u32, constants: &[u32], count: u32, classes: u32) -> u64 {
     let last = classes % 1000;
     let mut h = START;
-    let mut class = 0;
-    while class <= last {
-        h = sweep_contents(h, registers, constants, class as usize);
-        h = sweep_matrix(h, registers, constants, count, class as usize);
-        class += 1;
+    for class in 0..last as usize + 1 {
+        h = sweep_contents(h, registers, constants, class);
+        h = sweep_matrix(h, registers, constants, count, class);
     }
     h
 }
@@ -322,8 +303,8 @@ fn sweep(registers: u32, constants: &[u32], count: u32, classes: u32) -> u64 {
 // How many classes the call says there are.
 fn classes_of(registers: u32, constants: u32) -> u32 {
     match checker::class_count(registers, constants) {
-        Number::Is(n) => (n % 1000) as u32,
-        Number::Refused(_) => 0,
+        Ok(n) => (n % 1000) as u32,
+        Err(_) => 0,
     }
 }
 
@@ -362,12 +343,9 @@ fn next_sweep<F: Read>(file: &mut F, counts: &mut [u32]) -> bool {
 
 // All sweeps of an open file, a hundred at most.
 fn try_sweeps<F: Read>(file: &mut F, counts: &mut [u32]) {
-    let mut i = 0u32;
-    while i < 100 {
-        if next_sweep(file, counts) {
-            i += 1;
-        } else {
-            return;
+    for _ in 0..100 {
+        if !next_sweep(file, counts) {
+            break;
         }
     }
 }

@@ -3,7 +3,7 @@
 // All of each reply is compared, and all of each lent buffer; the number of registers that a no gives with the table's.
 #![tactic(auto)]
 
-use checker::Refusal;
+use checker::{Asking, Reaching, Refusal, Verdict};
 use std::io;
 use std::io::Read;
 use std::rt::Files;
@@ -24,10 +24,7 @@ struct Outcome {
 }
 
 fn came(reply: usize, same: bool) -> Outcome {
-    Outcome {
-        reply: reply,
-        same: same,
-    }
+    Outcome { reply, same }
 }
 
 // Whether a refusal is the one that stands in the header from this field on.
@@ -69,8 +66,8 @@ fn kept(
     m: usize,
 ) -> bool {
     trial::kept(words, w)
-        & trial::kept16(least, l)
-        & trial::kept16(links, l)
+        & trial::kept(least, l)
+        & trial::kept(links, l)
         & trial::kept(run, r)
         & trial::kept(lines, m)
 }
@@ -86,13 +83,13 @@ fn reach_over(
     lines: &mut [u32],
     short: u32,
     over: u32,
-) -> checker::Reaching {
+) -> Result<Reaching, Refusal> {
     checker::reach(
         table,
         target,
         trial::lend_near(words, 337, short == 0, over),
-        trial::lend_near16(least, 10784, short == 1, over),
-        trial::lend_near16(links, 10784, short == 2, over),
+        trial::lend_near(least, 10784, short == 1, over),
+        trial::lend_near(links, 10784, short == 2, over),
         trial::lend_near(run, 97061, short == 3, over),
         trial::lend_near(lines, 129420, short == 4, over),
     )
@@ -109,8 +106,8 @@ fn same_sets(
     links: &[u16; 10790],
 ) -> bool {
     let w = trial::digest(START, trial::front(words, 337));
-    let l = trial::digest16(START, trial::front16(least, 10784));
-    let k = trial::digest16(START, trial::front16(links, 10784));
+    let l = trial::digest(START, trial::front(least, 10784));
+    let k = trial::digest(START, trial::front(links, 10784));
     trial::tells(header, 5, &[reply, steps as u64, reached as u64, w, l, k])
 }
 
@@ -129,21 +126,14 @@ fn same_run(
         header,
         11,
         &[trial::digest(START, played), trial::digest(START, shown)],
-    ) & is_good(checker::replay(table, played))
-}
-
-fn is_good(reply: checker::Replayed) -> bool {
-    match reply {
-        checker::Replayed::Good => true,
-        _ => false,
-    }
+    ) & matches!(checker::replay(table, played), Ok(Verdict::Good))
 }
 
 // Whether reply and buffers of reaching are as expected.
 fn judge_reach(
     table: &[u8],
     header: &[u8],
-    reply: checker::Reaching,
+    reply: Result<Reaching, Refusal>,
     words: &[u32; 340],
     least: &[u16; 10790],
     links: &[u16; 10790],
@@ -151,13 +141,13 @@ fn judge_reach(
     lines: &[u32; 129430],
 ) -> Outcome {
     match reply {
-        checker::Reaching::Never { reached } => came(
+        Ok(Reaching::Never { reached }) => came(
             1,
             same_sets(header, 0, 0, reached, words, least, links)
                 & trial::tells(header, 11, &[0, 0])
                 & kept(words, least, links, run, lines, 337, 10784, 0, 0),
         ),
-        checker::Reaching::Reached { steps, reached } => {
+        Ok(Reaching::Reached { steps, reached }) => {
             let n = 5 + 9 * (steps % 10785);
             let m = 12 * (steps % 10785 + 1);
             came(
@@ -167,7 +157,7 @@ fn judge_reach(
                     & kept(words, least, links, run, lines, 337, 10784, n, m),
             )
         }
-        checker::Reaching::Refused(r) => came(
+        Err(r) => came(
             2,
             same_refusal(header, 5, r) & kept(words, least, links, run, lines, 0, 0, 0, 0),
         ),
@@ -176,7 +166,7 @@ fn judge_reach(
 
 // Whether the reply is refusal 9, whatever the files are, and nothing is written.
 fn judge_short(
-    reply: checker::Reaching,
+    reply: Result<Reaching, Refusal>,
     words: &[u32; 340],
     least: &[u16; 10790],
     links: &[u16; 10790],
@@ -184,10 +174,8 @@ fn judge_short(
     lines: &[u32; 129430],
 ) -> bool {
     match reply {
-        checker::Reaching::Refused(r) => {
-            is_nine(r) & kept(words, least, links, run, lines, 0, 0, 0, 0)
-        }
-        _ => false,
+        Err(r) => { is_nine(r) & kept(words, least, links, run, lines, 0, 0, 0, 0) }
+        Ok(_) => false,
     }
 }
 
@@ -241,7 +229,7 @@ fn same_rows(header: &[u8], from: usize, rows: &[u32; 10790]) -> bool {
 
 // The registers of a table that is read: the digit that ends the second field of its first line.
 fn registers_of(table: &[u8]) -> u64 {
-    trial::hex(trial::front8(trial::behind8(table, 11), 1))
+    trial::hex(trial::front(trial::behind(table, 11), 1))
 }
 
 // Whether class, contents and registers of a no are as expected.
@@ -265,23 +253,23 @@ fn judge_ask(
     table: &[u8],
     header: &[u8],
     from: usize,
-    reply: checker::Asking,
+    reply: Result<Asking, Refusal>,
     rows: &[u32; 10790],
     contents: &[u32; 5],
 ) -> Outcome {
     match reply {
-        checker::Asking::Yes => came(
+        Ok(Asking::Yes) => came(
             0,
             trial::tells(header, from, &[1, 0, 0])
                 & same_rows(header, from, rows)
                 & kept_rows(rows, 10784, contents),
         ),
-        checker::Asking::No { class, registers } => came(
+        Ok(Asking::No { class, registers }) => came(
             1,
             same_no(table, header, from, class, registers, contents)
                 & same_rows(header, from, rows),
         ),
-        checker::Asking::Refused(r) => came(
+        Err(r) => came(
             2,
             same_refusal(header, from, r) & kept_rows(rows, 0, contents),
         ),
@@ -289,10 +277,14 @@ fn judge_ask(
 }
 
 // Whether the reply is refusal 9, and nothing is written.
-fn judge_short_ask(reply: checker::Asking, rows: &[u32; 10790], contents: &[u32; 5]) -> bool {
+fn judge_short_ask(
+    reply: Result<Asking, Refusal>,
+    rows: &[u32; 10790],
+    contents: &[u32; 5],
+) -> bool {
     match reply {
-        checker::Asking::Refused(r) => is_nine(r) & kept_rows(rows, 0, contents),
-        _ => false,
+        Err(r) => is_nine(r) & kept_rows(rows, 0, contents),
+        Ok(_) => false,
     }
 }
 
@@ -303,7 +295,7 @@ fn ask_over(
     from: usize,
     rows: &mut [u32],
     contents: &mut [u32; 5],
-) -> checker::Asking {
+) -> Result<Asking, Refusal> {
     if from == BY_TEXT {
         return checker::ask_text(table, question, rows, contents);
     }
@@ -331,12 +323,9 @@ fn try_ask(table: &[u8], question: &[u8], header: &[u8], from: usize, case: u32)
 // Replaying a list.
 fn try_replay(table: &[u8], list: &[u32], header: &[u8]) -> Outcome {
     match checker::replay(table, list) {
-        checker::Replayed::Good => came(0, trial::tells(header, 21, &[1, 0, 0, 0])),
-        checker::Replayed::Bad(moment) => came(
-            1,
-            trial::tells(header, 21, &[0, moment as u64, 0, 0]),
-        ),
-        checker::Replayed::Refused(r) => came(2, same_refusal(header, 21, r)),
+        Ok(Verdict::Good) => came(0, trial::tells(header, 21, &[1, 0, 0, 0])),
+        Ok(Verdict::Bad(moment)) => came(1, trial::tells(header, 21, &[0, moment as u64, 0, 0])),
+        Err(r) => came(2, same_refusal(header, 21, r)),
     }
 }
 
@@ -461,10 +450,10 @@ fn try_case<F: Read>(
     let n = trial::take_numbers(file, trial::field(header, 4), &mut list);
     try_calls(
         rt,
-        trial::front8(&table, t),
-        trial::front8(&target, g),
-        trial::front8(&question, q),
-        trial::front8(&text, x),
+        trial::front(&table, t),
+        trial::front(&target, g),
+        trial::front(&question, q),
+        trial::front(&text, x),
         trial::front(&list, n),
         header,
         counts,
@@ -487,30 +476,13 @@ fn next_case<F: Read>(
     Ok(true)
 }
 
-// All cases of an open file, a thousand at most.
-fn try_cases<F: Read>(rt: &impl Print, file: &mut F, counts: &mut [u32]) -> io::Result<()> {
-    let mut case = 1;
-    while case <= 1000 {
-        if next_case(rt, file, counts, case)? {
-            case += 1;
-        } else {
-            return Ok(());
-        }
-    }
-    Ok(())
-}
-
-fn show(rt: &impl Print, name: &[u8], counts: &[u32; 14]) -> io::Result<()> {
-    trial::show(rt, name, counts)
-}
-
 // A group: its file has its name.
 fn group<R: Files + Print>(rt: &R, path: &[u8], name: &[u8]) -> io::Result<()> {
     let mut counts = [0u32; 14];
     if let Some(mut file) = trial::open(rt, path) {
-        try_cases(rt, &mut file, &mut counts)?;
+        trial::each_case(|case| next_case(rt, &mut file, &mut counts, case))?;
     }
-    show(rt, name, &counts)
+    trial::show(rt, name, &counts)
 }
 
 fn main(rt: HostRuntime) -> io::Result<()> {

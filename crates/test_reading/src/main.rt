@@ -19,35 +19,18 @@ struct Tried {
     files: u32,
 }
 
-fn read(files: u32) -> Tried {
-    Tried {
+// All that was there is read, or turned back by this refusal.
+fn outcome(refusal: Option<Refusal>, files: u32) -> Tried {
+    let r = refusal.unwrap_or(Refusal {
         number: 0,
         file: 0,
         line: 0,
-        files: files,
-    }
-}
-
-fn refused(r: Refusal, files: u32) -> Tried {
+    });
     Tried {
         number: r.number,
         file: r.file,
         line: r.line,
-        files: files,
-    }
-}
-
-fn of_reply(reply: reader::Reply, files: u32) -> Tried {
-    match reply {
-        reader::Reply::Accepted => read(files),
-        reader::Reply::Refused(r) => refused(r, files),
-    }
-}
-
-fn of_question(reply: questions::Reply, files: u32) -> Tried {
-    match reply {
-        questions::Reply::Accepted(_) => read(files),
-        questions::Reply::Refused(r) => refused(r, files),
+        files,
     }
 }
 
@@ -56,10 +39,10 @@ fn try_target(rt: &impl Files, form: &[u32], a: u8, b: u8, c: u8) -> Tried {
     let name = [a, b, c, b'.', b't', b'a', b'r', b'g', b'e', b't'];
     let mut bytes = [0u8; 4096];
     let Some(n) = trial::read_file(rt, &name, &mut bytes) else {
-        return read(1);
+        return outcome(None, 1);
     };
     let mut target = [0u32; forms::LENGTH];
-    of_reply(reader::read_target(form, &bytes[..n], &mut target), 3)
+    outcome(reader::read_target(form, &bytes[..n], &mut target).err(), 3)
 }
 
 // The question of a case, if it has one.
@@ -71,16 +54,14 @@ fn try_question(rt: &impl Files, form: &[u32], a: u8, b: u8, c: u8) -> Tried
     ];
     let mut bytes = [0u8; 4096];
     let Some(n) = trial::read_file(rt, &name, &mut bytes) else {
-        return read(1);
+        return outcome(None, 1);
     };
     let mut rows = [0u32; 96];
     let registers = forms::registers(form) as u32;
     let constants = forms::constants(form) as u32;
     let locations = forms::locations(form) as u32;
-    of_question(
-        questions::read_question(registers, constants, locations, &bytes[..n], &mut rows),
-        5,
-    )
+    let reply = questions::read_question(registers, constants, locations, &bytes[..n], &mut rows);
+    outcome(reply.err(), 5)
 }
 
 // The question as text of a case, if it has one.
@@ -90,16 +71,14 @@ fn try_text(rt: &impl Files, form: &[u32], a: u8, b: u8, c: u8) -> Tried
     let name = [a, b, c, b'.', b't', b'e', b'x', b't'];
     let mut bytes = [0u8; 4096];
     let Some(n) = trial::read_file(rt, &name, &mut bytes) else {
-        return read(1);
+        return outcome(None, 1);
     };
     let mut rows = [0u32; 96];
     let registers = forms::registers(form) as u32;
     let constants = forms::constants(form) as u32;
     let locations = forms::locations(form) as u32;
-    of_question(
-        texts::read_text(registers, constants, locations, &bytes[..n], &mut rows),
-        9,
-    )
+    let reply = texts::read_text(registers, constants, locations, &bytes[..n], &mut rows);
+    outcome(reply.err(), 9)
 }
 
 // The table of a case, and then its target, question or text.
@@ -107,27 +86,26 @@ fn try_case(rt: &impl Files, a: u8, b: u8, c: u8) -> Tried {
     let name = [a, b, c, b'.', b't', b'a', b'b', b'l', b'e'];
     let mut bytes = [0u8; 65536];
     let Some(n) = trial::read_file(rt, &name, &mut bytes) else {
-        return read(0);
+        return outcome(None, 0);
     };
     let mut form = [0u32; forms::LENGTH];
     let mut labels = [0u8; 3370];
-    let reply = opening::open_table(&bytes[..n], &mut form, &mut labels);
-    if let reader::Reply::Accepted = reply {
-        let target = try_target(rt, &form, a, b, c);
-        if target.files == 3 {
-            return target;
-        }
-        let question = try_question(rt, &form, a, b, c);
-        if question.files == 5 {
-            return question;
-        }
-        return try_text(rt, &form, a, b, c);
+    if let Err(r) = opening::open_table(&bytes[..n], &mut form, &mut labels) {
+        return outcome(Some(r), 1);
     }
-    of_reply(reply, 1)
+    let target = try_target(rt, &form, a, b, c);
+    if target.files == 3 {
+        return target;
+    }
+    let question = try_question(rt, &form, a, b, c);
+    if question.files == 5 {
+        return question;
+    }
+    try_text(rt, &form, a, b, c)
 }
 
 fn digit(n: u32) -> u8 {
-    48 + (n % 10) as u8
+    b'0' + (n % 10) as u8
 }
 
 // Prints one case in columns.
@@ -138,19 +116,17 @@ fn show(rt: &impl Print, i: u32, r: Tried) -> io::Result<()> {
     columns::put(&mut line, 12, r.file);
     columns::put(&mut line, 18, r.line);
     columns::put(&mut line, 24, r.files);
-    line[30] = 10;
+    line[30] = b'\n';
     rt.write_all(&line)
 }
 
 fn main(rt: HostRuntime) -> io::Result<()> {
-    let mut i = 1;
-    while i <= CASES {
+    for i in 1..=CASES {
         show(
             &rt,
             i,
             try_case(&rt, digit(i / 100), digit(i / 10), digit(i)),
         )?;
-        i += 1;
     }
     Ok(())
 }

@@ -4,7 +4,7 @@
 ghost use Rattle.std.specs.Prelude.{◌≡◌, ◌≤◌, take};
 ghost use Rattle.claims.specs.Replaying.{replay_steps_reply};
 
-use checker::Replayed;
+use checker::{Refusal, Verdict};
 use replay::Step;
 use std::io;
 use std::io::Read;
@@ -13,7 +13,12 @@ use std::io::Read;
 const HEADER: usize = 51;
 
 // The first n of an array of steps by value, lent: whoever calls it holds no reference to a step.
-fn replay_first(table: &[u8], start: [u32; 5], run: [Step; 24], n: usize) -> Replayed
+fn replay_first(
+    table: &[u8],
+    start: [u32; 5],
+    run: [Step; 24],
+    n: usize,
+) -> Result<Verdict, Refusal>
     requires { n ≤ 24 }
     ensures { result ≡ replay_steps_reply table.now start (take n run) }
 {
@@ -21,51 +26,20 @@ fn replay_first(table: &[u8], start: [u32; 5], run: [Step; 24], n: usize) -> Rep
 }
 
 // A reply as it is printed: 1 good; 0 and the first bad moment; or 2 and the refusal's numbers.
-#[derive(Clone, Copy)]
-struct Shown {
-    reply: u32,
-    number: u32,
-    file: u32,
-    line: u32,
-}
-
-fn numbers_of(reply: Replayed) -> Shown {
+fn numbers_of(reply: Result<Verdict, Refusal>) -> [u32; 4] {
     match reply {
-        Replayed::Good => Shown {
-            reply: 1,
-            number: 0,
-            file: 0,
-            line: 0,
-        },
-        Replayed::Bad(moment) => Shown {
-            reply: 0,
-            number: (moment % 1000000) as u32,
-            file: 0,
-            line: 0,
-        },
-        Replayed::Refused(r) => Shown {
-            reply: 2,
-            number: r.number,
-            file: r.file,
-            line: r.line,
-        },
+        Ok(Verdict::Good) => [1, 0, 0, 0],
+        Ok(Verdict::Bad(moment)) => [0, (moment % 1000000) as u32, 0, 0],
+        Err(r) => [2, r.number, r.file, r.line],
     }
 }
 
-fn show(rt: &impl Print, case: u32, list: Shown, steps: Shown) -> io::Result<()> {
+fn show(rt: &impl Print, case: u32, list: [u32; 4], steps: [u32; 4]) -> io::Result<()> {
     trial::show(
         rt,
         b"",
         &[
-            case,
-            list.reply,
-            list.number,
-            list.file,
-            list.line,
-            steps.reply,
-            steps.number,
-            steps.file,
-            steps.line,
+            case, list[0], list[1], list[2], list[3], steps[0], steps[1], steps[2], steps[3],
         ],
     )
 }
@@ -83,18 +57,16 @@ fn step_at(list: &[u32; 221], at: usize) -> Step {
     ];
     Step {
         arc: list[i],
-        params: params,
-        next: next,
+        params,
+        next,
     }
 }
 
 // The steps of a list, behind its start.
 fn steps_of(list: &[u32; 221]) -> [Step; 24] {
     let mut run = [step_at(list, 5); 24];
-    let mut i = 0;
-    while i < 24 {
+    for i in 0..24 {
         run[i] = step_at(list, 5 + 9 * i);
-        i += 1;
     }
     run
 }
@@ -110,13 +82,13 @@ fn steps_in(n: usize) -> usize
 }
 
 // The reply to start and steps.
-fn try_steps(table: &[u8], list: &[u32; 221], n: usize) -> Shown {
+fn try_steps(table: &[u8], list: &[u32; 221], n: usize) -> [u32; 4] {
     let start = [list[0], list[1], list[2], list[3], list[4]];
     numbers_of(replay_first(table, start, steps_of(list), steps_in(n)))
 }
 
 // The reply to the list.
-fn try_list(table: &[u8], list: &[u32]) -> Shown {
+fn try_list(table: &[u8], list: &[u32]) -> [u32; 4] {
     numbers_of(checker::replay(table, list))
 }
 
@@ -130,7 +102,7 @@ fn try_case<F: Read>(
     let mut table = [10u8; 41000];
     let mut list = [0u32; 221];
     trial::take(file, &mut table, trial::field(header, 0));
-    let bytes = trial::front8(&table, trial::field(header, 1) as usize);
+    let bytes = trial::front(&table, trial::field(header, 1) as usize);
     let n = trial::take_numbers(file, trial::field(header, 2), &mut list);
     let whole = try_list(bytes, trial::front(&list, n));
     let steps = try_steps(bytes, &list, n);
@@ -149,12 +121,9 @@ fn next_case<F: Read>(rt: &impl Print, file: &mut F, case: u32) -> io::Result<bo
 
 // All cases of an open file, a thousand at most.
 fn try_cases<F: Read>(rt: &impl Print, file: &mut F) -> io::Result<()> {
-    let mut case = 1;
-    while case <= 1000 {
-        if next_case(rt, file, case)? {
-            case += 1;
-        } else {
-            return Ok(());
+    for case in 1..=1000 {
+        if !next_case(rt, file, case)? {
+            break;
         }
     }
     Ok(())

@@ -2,7 +2,7 @@
 // All of a reply is compared, and all of a buffer of which the first words are lent.
 #![tactic(auto)]
 
-use checker::{Leads, Refusal, Written};
+use checker::Refusal;
 use std::io;
 use std::io::Read;
 use std::rt::Files;
@@ -25,15 +25,15 @@ fn mix_refusal(h: u64, r: Refusal) -> u64 {
 // One step more: counted, and in the digest.
 fn try_step(h: u64, table: &[u8], from: u32, to: u32, counts: &mut [u32]) -> u64 {
     match checker::step(table, from, to) {
-        Leads::Yes => {
+        Ok(true) => {
             trial::add(counts, 1, 1);
             trial::mix(h, 1)
         }
-        Leads::No => {
+        Ok(false) => {
             trial::add(counts, 2, 1);
             trial::mix(h, 0)
         }
-        Leads::Refused(r) => {
+        Err(r) => {
             trial::add(counts, 3, 1);
             mix_refusal(trial::mix(h, 2), r)
         }
@@ -46,11 +46,11 @@ fn try_successors(h: u64, table: &[u8], from: u32, room: usize, counts: &mut [u3
     let reply = checker::successors(table, from, trial::lend(&mut out, room));
     let d = trial::digest(h, &out);
     match reply {
-        Written::Done => {
+        Ok(()) => {
             trial::add(counts, 4, 1);
             d
         }
-        Written::Refused(r) => {
+        Err(r) => {
             trial::add(counts, 5, 1);
             mix_refusal(d, r)
         }
@@ -69,11 +69,9 @@ fn try_row(
 ) -> u64 {
     let mut d = h;
     let mut to = first;
-    let mut i = 0;
-    while i < count {
+    for _ in 0..count {
         d = try_step(d, table, from, to, counts);
         to = std::num::wrapping_add_u32(to, stride);
-        i += 1;
     }
     d
 }
@@ -90,17 +88,12 @@ fn try_probe(
     let mut steps = START;
     let mut rows = START;
     let mut from = first;
-    let mut i = 0;
-    while i < count {
+    for _ in 0..count {
         rows = try_successors(rows, table, from, room, counts);
         steps = try_row(steps, table, from, first, stride, count, counts);
         from = std::num::wrapping_add_u32(from, stride);
-        i += 1;
     }
-    Seen {
-        steps: steps,
-        rows: rows,
-    }
+    Seen { steps, rows }
 }
 
 // Whether the probe whose fields begin here is as expected.
@@ -156,7 +149,7 @@ fn try_case<F: Read>(
     trial::take(file, &mut table, trial::field(header, 0));
     try_probes(
         rt,
-        trial::front8(&table, trial::field(header, 1) as usize),
+        trial::front(&table, trial::field(header, 1) as usize),
         header,
         counts,
         case,
@@ -178,30 +171,13 @@ fn next_case<F: Read>(
     Ok(true)
 }
 
-// All cases of an open file, a thousand at most.
-fn try_cases<F: Read>(rt: &impl Print, file: &mut F, counts: &mut [u32]) -> io::Result<()> {
-    let mut case = 1;
-    while case <= 1000 {
-        if next_case(rt, file, counts, case)? {
-            case += 1;
-        } else {
-            return Ok(());
-        }
-    }
-    Ok(())
-}
-
-fn show(rt: &impl Print, name: &[u8], counts: &[u32; 7]) -> io::Result<()> {
-    trial::show(rt, name, counts)
-}
-
 // A group: its file has its name.
 fn group<R: Files + Print>(rt: &R, path: &[u8], name: &[u8]) -> io::Result<()> {
     let mut counts = [0u32; 7];
     if let Some(mut file) = trial::open(rt, path) {
-        try_cases(rt, &mut file, &mut counts)?;
+        trial::each_case(|case| next_case(rt, &mut file, &mut counts, case))?;
     }
-    show(rt, name, &counts)
+    trial::show(rt, name, &counts)
 }
 
 fn main(rt: HostRuntime) -> io::Result<()> {

@@ -3,7 +3,7 @@
 use Prim.Native.Nat.{ℕ, zero, suc, ◌+◌, ◌*◌, ◌-◌, ◌≤◌, ◌<◌}
 use mathlib.Core.Bool.{Bool, true, false, cond, ◌&&◌}
 use mathlib.Core.List.{List, [], ◌∷◌, ◌++◌}
-use mathlib.Core.Logic.{◌≢◌, by_cases}
+use mathlib.Core.Logic.{◌≢◌, ◌⊎◌, inl, inr, by_cases}
 use mathlib.Core.Option.{Option, none, some}
 use mathlib.Core.Path.{◌≡◌, refl, sym, ◌∙◌}
 use native.Mathlib.Decide.{dec_lt, ℕ_discrete}
@@ -107,11 +107,19 @@ number-low s i b e h k = (number_out s i b e h (below 49 57 b k), h)
 pub number_high : (s : List ℕ) (i b : ℕ) → b ≡ get_or s i 0 → i ≤ length s → 57 < b → RightNumber s i (stopped i)
 number_high s i b e h k = (number_out s i b e h (above 49 57 b k), h)
 
+pub number_not : (s : List ℕ) (i b : ℕ) → b ≡ get_or s i 0 → i ≤ length s → (b < 49) ⊎ (57 < b) → RightNumber s i (stopped i)
+number_not s i b e h (inl k) = number-low s i b e h k
+number_not s i b e h (inr k) = number_high s i b e h k
+
 pub digit_low : (c : ℕ) → c < 48 → digit c ≡ false
 digit_low c h = below 48 57 c h
 
 pub digit_high : (c : ℕ) → 57 < c → digit c ≡ false
 digit_high c h = above 48 57 c h
+
+pub digit_not : (c : ℕ) → (c < 48) ⊎ (57 < c) → digit c ≡ false
+digit_not c (inl h) = digit_low c h
+digit_not c (inr h) = digit_high c h
 
 -- How a question begins
 

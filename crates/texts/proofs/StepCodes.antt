@@ -1,16 +1,19 @@
 -- The numbers that the reader's functions return.
 -- Assumes nothing.
-use Prim.Native.Nat.{ℕ, ◌+◌, ◌*◌, ◌/◌, ◌%◌, ◌≤◌, ◌<◌}
+use Prim.Native.Nat.{ℕ, zero, suc, ◌+◌, ◌*◌, ◌/◌, ◌%◌, ◌≤◌, ◌<◌}
 use mathlib.Core.List.{List}
 use mathlib.Core.Logic.{by_cases}
-use mathlib.Core.Path.{◌≡◌, refl, ap₂, subst}
+use mathlib.Core.Path.{◌≡◌, refl, sym, ap₂, subst, ◌∙◌}
 use native.Mathlib.Decide.{dec_lt}
 use native.Mathlib.Omega.{arith}
 use lib.ListN.{length}
 use borrow.Author.Tests.{lt-ltb, le-ltb}
+use Rattle.std.specs.Prelude.{Some, None, ◌≢◌}
+use Rattle.std.proofs.Math.Dec.{eqb-suc-zero}
+use Rattle.std.proofs.lemmas.Option.{none-some, same_Some}
 use Rattle.grammar.specs.Grammar.{Question}
 use Rattle.grammar.specs.Parser.{Read}
-use Rattle.texts.specs.Descent.{Right, RightNumber}
+use Rattle.texts.specs.Descent.{kind_or_none, Right, RightNumber}
 use Rattle.texts.specs.Steps.{step_of}
 use Rattle.texts.specs.Steps.Step.{read, stopped}
 
@@ -27,6 +30,18 @@ step_code p n h k =
     let e : (p + 1024 * n) % 1024 ≡ p = omega arith in
     let d : (p + 1024 * n) / 1024 ≡ n = omega arith in
     rw (step-read (p + 1024 * n) (omega arith)) (ap₂ read e d)
+
+-- A kind, by what is returned for it
+
+pub kind-some : (n k : ℕ) → Some k ≡ kind_or_none n → (k ≡ n) × (k ≢ 0)
+unfolding kind_or_none
+kind-some zero k e = absurd (none-some k (sym e))
+kind-some (suc n) k e = let f = same_Some k (suc n) (e ∙ rw (eqb-suc-zero n) refl) in (f, λ z. omega (arith, f, z))
+
+pub kind-none : (n : ℕ) → None ≡ kind_or_none n → n ≡ 0
+unfolding kind_or_none
+kind-none zero e = refl
+kind-none (suc n) e = absurd (none-some (suc n) (e ∙ rw (eqb-suc-zero n) refl))
 
 -- What was answered, by the number
 

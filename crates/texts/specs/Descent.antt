@@ -1,6 +1,6 @@
 -- What the functions of the reader give, by the parser of crate grammar.
 -- Assumes nothing.
-use Rattle.std.specs.Prelude.{ℕ, ◌+◌, ◌≤◌, ◌<◌, Bool, true, false, cond, List, ◌≡◌, eqb, length, drop}
+use Rattle.std.specs.Prelude.{ℕ, ◌+◌, ◌≤◌, ◌<◌, Bool, true, false, cond, List, ◌≡◌, eqb, length, drop, Option as Kind, Some, None}
 use Rattle.std.proofs.Math.Option.{Option, none, some}
 use Rattle.automata.specs.Questions.{row}
 use Rattle.automata.specs.Questions.Atom.{at, equal, is}
@@ -69,6 +69,10 @@ middle_kind false b = cond (eqb b 38) 5 (cond (eqb b 124) 9 (cond (eqb b 62) 10 
 -- the kind of row of an equation, or 0
 unfoldable pub side_kind : ℕ → ℕ
 side_kind b = cond (eqb b 114) 2 (cond (eqb b 99) 3 0)
+
+-- a kind as a function returns it, none for 0
+unfoldable pub kind_or_none : ℕ → Kind ℕ
+kind_or_none k = cond (eqb k 0) None (Some k)
 
 -- the answer to o, from byte i on with n rows before and the form t: a question's end and rows, or the byte at which it stops
 abbrev pub Right : parser.Read Question → List ℕ → ℕ → ℕ → List ℕ → Step → List ℕ → Type 0

@@ -1,6 +1,6 @@
 -- What reading a question as a line of text gives, for every list of bytes; what it means, said of the grammar, is `text-means`.
 -- Assumes nothing.
-use Rattle.std.specs.Prelude.{ℕ, ◌+◌, cond, List, [], ◌∷◌, ◌≡◌, eqb, leb, length}
+use Rattle.std.specs.Prelude.{ℕ, ◌+◌, cond, List, [], ◌∷◌, ◌≡◌, eqb, leb, length, Result, Ok, Err}
 use Rattle.refusals.specs.Judged.{Judged, refusal, ◌then◌, require}
 use Rattle.refusals.specs.Judged.Judged.{accepted, refused}
 use Rattle.automata.specs.Questions.{Row}
@@ -11,8 +11,6 @@ use Rattle.forms.specs.QuestionForm.{no_rows}
 use Rattle.questions.specs.declared.Counts.{Counts}
 use Rattle.questions.specs.QuestionRules.{judge_row}
 use Rattle.questions.specs.Question.{Rows, counts}
-use Rattle.texts.specs.declared.Scanned.{Scanned}
-use Rattle.texts.specs.declared.Scanned.TheVariants.{Whole, Outside}
 use Rattle.texts.specs.RowsPut.{put_rows}
 
 -- of rows that follow n others, the number of the first that does not fit the table, or 0
@@ -38,6 +36,6 @@ unfoldable pub read_text : ℕ → ℕ → ℕ → List ℕ → Judged Rows
 read_text registers constants locations s = require (leb (length s) 400) (refusal 1 2 0) then (λ ok. judged (counts registers constants locations) (parse s))
 
 -- what a scan of the whole text answers, with the form t before and t' after
-abbrev pub RightText : List ℕ → List ℕ → Scanned → List ℕ → Type 0
-RightText s t (Whole n) t' = (q : Question) × (parse s ≡ parsed q) × (n ≡ size q) × (t' ≡ put_rows t 0 (rows_from 0 q))
-RightText s t (Outside p) t' = parse s ≡ outside p
+abbrev pub RightText : List ℕ → List ℕ → Result ℕ ℕ → List ℕ → Type 0
+RightText s t (Ok n) t' = (q : Question) × (parse s ≡ parsed q) × (n ≡ size q) × (t' ≡ put_rows t 0 (rows_from 0 q))
+RightText s t (Err p) t' = parse s ≡ outside p

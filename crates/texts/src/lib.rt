@@ -2,18 +2,17 @@
 #![tactic(auto)]
 
 ghost use Rattle.std.specs.Prelude.{◌≢◌, ◌≡◌, ◌+◌, ◌≤◌, ◌<◌, length, get_or, take};
-ghost use Rattle.refusals.specs.Judged.{refusal};
+ghost use Rattle.refusals.specs.Judged.{refusal, verdict};
 ghost use Rattle.automata.specs.Questions.{row};
 ghost use Rattle.forms.specs.QuestionForm.{rows_of};
-ghost use Rattle.questions.specs.declared.Reply.TheVariants.{Refused};
 ghost use Rattle.questions.specs.QuestionReply.{reply_of, form_of};
 ghost use Rattle.texts.specs.Texts.{RightText, first_misfit, read_text};
 ghost use Rattle.texts.specs.RowsPut.{put_first};
 ghost use Rattle.texts.specs.Steps.{Step, step_of};
-ghost use Rattle.texts.specs.Descent.{from, pair_from, equation_from, location_from, prefix_kind, prefixed_step, prefixed_rows, middle_kind, side_kind, Right, RightNumber};
+ghost use Rattle.texts.specs.Descent.{from, pair_from, equation_from, location_from, prefix_kind, prefixed_step, prefixed_rows, middle_kind, side_kind, kind_or_none, Right, RightNumber};
 
 use forms::Question;
-use questions::{Counts, Reply};
+use questions::Counts;
 use refusals::Refusal;
 
 // A text with room for the longest. A reference to it is one address, where one to a slice is two numbers that every call writes to memory again.
@@ -22,6 +21,7 @@ const LENGTH: usize = 400;
 type Text = [u8; LENGTH];
 
 // Writes row n, counted from 0, if it is one of the first 32.
+#[tactic(auto, unfolding(crate::specs::RowsPut::put_first))]
 fn put_first(t: &mut Question, n: u32, k: u32, a: u32, b: u32)
     ensures { t.new ≡ put_first t.old n (row k a b) }
 {
@@ -31,6 +31,7 @@ fn put_first(t: &mut Question, n: u32, k: u32, a: u32, b: u32)
 }
 
 // Read up to here, with this number: the rows up to there, or the value of a numeral.
+// Stays: what a reader of a part returns is one number, for an enum in its place was slower on long texts.
 fn read(at: u32, n: u32) -> u32
     requires { (at < 1024) × (0 < n) × (n ≤ 1000) }
     ensures { step_of result ≡ Step.read at n }
@@ -58,22 +59,12 @@ fn prefixed(t: &mut Question, q: u32, k: u32) -> u32
     closed(t, q % 1024, q / 1024, k, q / 1024, 0)
 }
 
-// A byte as a number.
-fn wide(b: u8) -> u32
-    ensures { result ≡ b }
-{
-    b as u32
-}
-
 // The byte at a position of a text of n bytes, 0 behind the end.
-fn byte_at(s: &Text, n: u32, at: u32) -> u32
+fn byte_at(s: &Text, n: u32, at: u32) -> u8
     requires { n ≤ 400 }
     ensures { result ≡ get_or (take n s.now) at 0 }
 {
-    if at < n {
-        return wide(s[at as usize]);
-    }
-    0
+    if at < n { s[at as usize] } else { 0 }
 }
 
 // A number of one or two digits, the first not 0.
@@ -82,74 +73,58 @@ fn number(s: &Text, n: u32, at: u32) -> u32
     ensures { RightNumber (take n s.now) at (step_of result) }
 {
     let b = byte_at(s, n, at);
-    if b < 49 {
+    if !(b'1'..=b'9').contains(&b) {
         return at;
     }
-    if 57 < b {
-        return at;
-    }
+    let tens = u32::from(b - b'0');
     let next = at + 1;
     let c = byte_at(s, n, next);
-    if c < 48 {
-        return read(next, b - 48);
+    if !c.is_ascii_digit() {
+        return read(next, tens);
     }
-    if 57 < c {
-        return read(next, b - 48);
-    }
-    read(next + 1, 10 * (b - 48) + (c - 48))
+    read(next + 1, 10 * tens + u32::from(c - b'0'))
 }
 
-// The kind of the row for an operator of these two bytes before a question, or 0.
-fn prefix(b: u32, c: u32) -> u32
-    ensures { result ≡ prefix_kind b c }
+// The kind of the row for an operator of these two bytes before a question, if they are one.
+#[tactic(auto, unfolding(crate::specs::Descent::prefix_kind, crate::specs::Descent::kind_or_none))]
+fn prefix(b: u8, c: u8) -> Option<u32>
+    ensures { result ≡ kind_or_none (prefix_kind b c) }
 {
-    match b {
-        69 => {
-            match c {
-                88 => 6,
-                71 => 8,
-                70 => 12,
-                _ => 0,
-            }
-        }
-        65 => {
-            match c {
-                88 => 11,
-                71 => 13,
-                70 => 14,
-                _ => 0,
-            }
-        }
-        _ => 0,
+    match (b, c) {
+        (b'E', b'X') => Some(6),
+        (b'E', b'G') => Some(8),
+        (b'E', b'F') => Some(12),
+        (b'A', b'X') => Some(11),
+        (b'A', b'G') => Some(13),
+        (b'A', b'F') => Some(14),
+        _ => None,
     }
 }
 
-// The kind of the row for what joins two questions, or 0.
-fn middle(b: u32, until: bool) -> u32
-    ensures { result ≡ middle_kind until b }
+// Stays: `until` chooses one of two tables of operators; `pair` passes it on, and two functions for it would repeat the rest.
+// The kind of the row for what joins two questions, if the byte does.
+#[tactic(auto, unfolding(crate::specs::Descent::middle_kind, crate::specs::Descent::kind_or_none))]
+fn middle(b: u8, until: bool) -> Option<u32>
+    ensures { result ≡ kind_or_none (middle_kind until b) }
 {
-    if until {
-        if b == 85 {
-            return 7;
-        }
-        return 0;
-    }
-    match b {
-        38 => 5,
-        124 => 9,
-        62 => 10,
-        _ => 0,
+    match (until, b) {
+        (true, b'U') => Some(7),
+        (false, b'&') => Some(5),
+        (false, b'|') => Some(9),
+        (false, b'>') => Some(10),
+        _ => None,
     }
 }
 
-// The kind of the row for an equation with a register or a constant, or 0.
-fn side(b: u32) -> u32
-    ensures { result ≡ side_kind b }
+// The kind of the row for an equation with a register or a constant, if the byte names one.
+#[tactic(auto, unfolding(crate::specs::Descent::side_kind, crate::specs::Descent::kind_or_none))]
+fn side(b: u8) -> Option<u32>
+    ensures { result ≡ kind_or_none (side_kind b) }
 {
     match b {
-        114 => 2,
-        99 => 3,
-        _ => 0,
+        b'r' => Some(2),
+        b'c' => Some(3),
+        _ => None,
     }
 }
 
@@ -175,14 +150,13 @@ fn equation(s: &Text, n: u32, t: &mut Question, at: u32, rows: u32) -> u32
         return i;
     }
     let p = i % 1024;
-    if byte_at(s, n, p) != 61 {
+    if byte_at(s, n, p) != b'=' {
         return p;
     }
     let m = p + 1;
-    let k = side(byte_at(s, n, m));
-    if k == 0 {
+    let Some(k) = side(byte_at(s, n, m)) else {
         return m;
-    }
+    };
     let j = number(s, n, m + 1);
     if j < 1024 {
         return j;
@@ -196,7 +170,7 @@ fn question(s: &Text, n: u32, t: &mut Question, at: u32, rows: u32) -> u32
     requires { (at ≤ length (take n s.now)) × (n ≤ 400) × (rows ≤ at) }
     ensures { Right (from (take n s.now) at) (take n s.now) at rows t.old (step_of result) t.new }
 {
-    if byte_at(s, n, at) == 40 {
+    if byte_at(s, n, at) == b'(' {
         return pair(s, n, t, at + 1, rows, false);
     }
     atom(s, n, t, at, rows)
@@ -211,30 +185,29 @@ fn atom(s: &Text, n: u32, t: &mut Question, at: u32, rows: u32) -> u32
     let b = byte_at(s, n, at);
     let next = at + 1;
     // apart from the operators of two bytes, so that where the next question begins is not computed from this byte
-    if b == 33 {
+    if b == b'!' {
         let q = question(s, n, t, next, rows);
         return prefixed(t, q, 4);
     }
-    if b == 76 {
+    if b == b'L' {
         return location(s, n, t, next, rows);
     }
-    if b == 114 {
+    if b == b'r' {
         return equation(s, n, t, next, rows);
     }
     let c = byte_at(s, n, next);
-    let k = prefix(b, c);
-    if k == 0 {
-        if b == 69 {
-            if c == 40 {
+    let Some(k) = prefix(b, c) else {
+        if b == b'E' {
+            if c == b'(' {
                 return pair(s, n, t, next + 1, rows, true);
             }
             return next;
         }
-        if b == 65 {
+        if b == b'A' {
             return next;
         }
         return at;
-    }
+    };
     let q = question(s, n, t, next + 1, rows);
     prefixed(t, q, k)
 }
@@ -250,105 +223,93 @@ fn pair(s: &Text, n: u32, t: &mut Question, at: u32, rows: u32, until: bool) -> 
         return p;
     }
     let m = p % 1024;
-    let k = middle(byte_at(s, n, m), until);
-    if k == 0 {
+    let Some(k) = middle(byte_at(s, n, m), until) else {
         return m;
-    }
+    };
     let q = question(s, n, t, m + 1, p / 1024);
     if q < 1024 {
         return q;
     }
     let e = q % 1024;
-    if byte_at(s, n, e) != 41 {
+    if byte_at(s, n, e) != b')' {
         return e;
     }
     closed(t, e + 1, q / 1024, k, p / 1024, q / 1024)
 }
 
-// A text that is read to its end, with the number of its rows, or the byte, from 1, at which it is outside the grammar.
-#[derive(Clone, Copy)]
-pub enum Scanned {
-    Whole(u32),
-    Outside(u32),
-}
-
-// A whole text of at most 400 bytes.
-fn scan(s: &Text, n: u32, t: &mut Question) -> Scanned
+// A whole text of at most 400 bytes: how many rows it has, or else the byte, from 1, at which it is outside the grammar.
+fn scan(s: &Text, n: u32, t: &mut Question) -> Result<u32, u32>
     requires { (n ≤ 400) × (n ≤ length s.now) }
     ensures { RightText (take n s.now) t.old result t.new }
 {
     let q = question(s, n, t, 0, 0);
     if q < 1024 {
-        return Scanned::Outside(q + 1);
+        return Err(q + 1);
     }
     let end = q % 1024;
     if end < n {
-        return Scanned::Outside(end + 1);
+        return Err(end + 1);
     }
-    Scanned::Whole(q / 1024)
+    Ok(q / 1024)
 }
 
-// The number of the first of n rows that does not fit the table, or 0.
-fn misfit(c: Counts, t: &[u32], n: u32) -> u32
+// Judges n rows: the number of the first that does not fit the table, from 1, is the error.
+fn judge_rows(c: Counts, t: &[u32], n: u32) -> Result<(), u32>
     requires { (n ≤ 32) × (length t.now ≡ 96) }
-    ensures { result ≡ first_misfit c 0 (rows_of t.now n) }
+    ensures { result ≡ verdict (first_misfit c 0 (rows_of t.now n)) }
 {
-    let mut i = 0u32;
-    while i < n {
+    for i in 0..n {
         let j = 3 * (i as usize);
-        if questions::judge_row(c, i, t[j], t[j + 1], t[j + 2]) != 0 {
-            return i + 1;
+        if questions::judge_row(c, i, t[j], t[j + 1], t[j + 2]).is_err() {
+            return Err(i + 1);
         }
-        i += 1;
     }
-    0
+    Ok(())
 }
 
 // A refusal of the text.
-fn refused(number: u32, line: u32) -> Reply
-    ensures { result ≡ Refused (refusal number 2 line) }
+fn refused(number: u32, line: u32) -> Refusal
+    ensures { result ≡ refusal number 2 line }
 {
-    Reply::Refused(Refusal {
-        number: number,
+    Refusal {
+        number,
         file: 2,
-        line: line,
-    })
+        line,
+    }
 }
 
-// Reads a question as a line of text, to a table with these counts; a refusal leaves the rows as they are.
+// Reads a question as a line of text, to a table with these counts, and returns how many rows it has; a refusal leaves the rows as they are.
 pub fn read_text(
     registers: u32,
     constants: u32,
     locations: u32,
     s: &[u8],
     rows: &mut Question,
-) -> Reply
+) -> Result<usize, Refusal>
     ensures { (result ≡ reply_of (read_text registers constants locations s.now))
         × (rows.new ≡ form_of (read_text registers constants locations s.now) rows.old) }
 {
     if 400 < s.len() {
-        return refused(1, 0);
+        return Err(refused(1, 0));
     }
     let c = Counts {
-        registers: registers,
-        constants: constants,
-        locations: locations,
+        registers,
+        constants,
+        locations,
     };
     let mut text = [0u8; LENGTH];
     text[..s.len()].copy_from_slice(s);
     let mut form = [0u32; forms::QUESTION_LENGTH];
-    match scan(&text, s.len() as u32, &mut form) {
-        Scanned::Outside(p) => refused(11, p),
-        Scanned::Whole(n) => {
-            if 32 < n {
-                return refused(12, 0);
-            }
-            let x = misfit(c, &form, n);
-            if x != 0 {
-                return refused(5, x);
-            }
-            *rows = form;
-            Reply::Accepted(n as usize)
-        }
+    let n = match scan(&text, s.len() as u32, &mut form) {
+        Ok(n) => n,
+        Err(p) => return Err(refused(11, p)),
+    };
+    if 32 < n {
+        return Err(refused(12, 0));
     }
+    if let Err(i) = judge_rows(c, &form, n) {
+        return Err(refused(5, i));
+    }
+    *rows = form;
+    Ok(n as usize)
 }

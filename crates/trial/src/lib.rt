@@ -1,11 +1,11 @@
-// What the test programs share: parts of buffers, hexadecimal fields, digests, what a call left alone, files of cases, and counts in columns. No function asks anything of its caller.
+// What the test programs share: parts of buffers, hexadecimal fields, digests, what a call left alone, files of cases, and counts in columns. No function asks more of its caller than that a closure may be called.
 #![tactic(auto)]
 
 ghost use Rattle.std.specs.Prelude.{◌≤◌, length, IfSome};
 
+use std::io;
 use std::io::Read;
 use std::rt::Files;
-use std::{fs, io, str};
 
 // What fills a buffer before a call: what is not to be written must still be it afterwards.
 pub const FILL: u32 = 2863311530;
@@ -14,107 +14,65 @@ pub const FILL16: u16 = 43690;
 
 pub const FILL8: u8 = 170;
 
+// Numbers that fill a buffer.
+pub trait Fill: Copy + PartialEq {
+    const FILL: Self;
+}
+
+impl Fill for u16 {
+    const FILL: u16 = FILL16;
+}
+
+impl Fill for u32 {
+    const FILL: u32 = FILL;
+}
+
 // Where a digest begins.
 pub const START: u64 = 14695981039346656037;
 
-// The first n numbers of a list; all, where it has fewer.
-pub fn front8(s: &[u8], n: usize) -> &[u8] {
-    if s.len() < n {
-        return s;
-    }
-    &s[0..n]
+// The first n of a list; all, where it has fewer.
+pub fn front<T>(s: &[T], n: usize) -> &[T] {
+    &s[..s.len().min(n)]
 }
 
-pub fn front16(s: &[u16], n: usize) -> &[u16] {
-    if s.len() < n {
-        return s;
-    }
-    &s[0..n]
+// What stands behind the first n; all, where there are fewer.
+pub fn behind<T>(s: &[T], n: usize) -> &[T] {
+    s.get(n..).unwrap_or(s)
 }
 
-pub fn front(s: &[u32], n: usize) -> &[u32] {
-    if s.len() < n {
-        return s;
-    }
-    &s[0..n]
-}
-
-// What stands behind the first n bytes; all, where there are fewer.
-pub fn behind8(s: &[u8], n: usize) -> &[u8] {
-    if s.len() < n {
-        return s;
-    }
-    &s[n..]
-}
-
-// The first n numbers of a buffer, to lend to a call; all, where it has fewer.
-pub fn lend8(s: &mut [u8], n: usize) -> &mut [u8] {
-    if s.len() < n {
-        return s;
-    }
-    &mut s[0..n]
-}
-
-pub fn lend(s: &mut [u32], n: usize) -> &mut [u32] {
-    if s.len() < n {
-        return s;
-    }
-    &mut s[0..n]
+// The first n of a buffer, to lend to a call; all, where it has fewer.
+pub fn lend<T>(s: &mut [T], n: usize) -> &mut [T] {
+    let end = s.len().min(n);
+    &mut s[..end]
 }
 
 // A length, or up to three more; or one less.
+// Stays: `less` says which of two lengths a case wants; both callers pass it on.
 fn near(n: usize, less: bool, over: u32) -> usize {
-    if less {
-        if 0 < n {
-            return n - 1;
-        }
+    if less && 0 < n {
+        n - 1
+    } else {
+        n.wrapping_add(over as usize % 4)
     }
-    std::num::wrapping_add_usize(n, over as usize % 4)
 }
 
 // Of a buffer that is longer than a call asks: the n numbers that it asks for, or up to three more; or one less.
-pub fn lend_near16(s: &mut [u16], n: usize, less: bool, over: u32) -> &mut [u16] {
-    let m = near(n, less, over);
-    if s.len() < m {
-        return s;
-    }
-    &mut s[0..m]
-}
-
-pub fn lend_near(s: &mut [u32], n: usize, less: bool, over: u32) -> &mut [u32] {
-    let m = near(n, less, over);
-    if s.len() < m {
-        return s;
-    }
-    &mut s[0..m]
-}
-
-fn wide8(n: u8) -> u32 {
-    n as u32
-}
-
-fn wide16(n: u16) -> u32 {
-    n as u32
+pub fn lend_near<T>(s: &mut [T], n: usize, less: bool, over: u32) -> &mut [T] {
+    lend(s, near(n, less, over))
 }
 
 fn low_half(n: u64) -> u32 {
     (n % 4294967296) as u32
 }
 
-// FNV-1a, 64 bits: one byte more. The prime is 2^40 + 435.
-fn mix_byte(h: u64, b: u32) -> u64 {
-    let x = h ^ (b as u64);
-    let low = x % 4294967296 * 435;
-    let high = x / 4294967296 % 4294967296 * 435;
-    std::num::wrapping_add_u64(x << 40, std::num::wrapping_add_u64(high << 32, low))
+// FNV-1a, 64 bits: one byte more.
+fn mix_byte(h: u64, b: u8) -> u64 {
+    (h ^ u64::from(b)).wrapping_mul(1099511628211)
 }
 
 // The digest of one number more: four bytes, lowest first.
 pub fn mix(h: u64, n: u32) -> u64 {
-    let a = mix_byte(h, n % 256);
-    let b = mix_byte(a, n / 256 % 256);
-    let c = mix_byte(b, n / 65536 % 256);
-    mix_byte(c, n / 16777216)
+    n.to_le_bytes().iter().fold(h, |d, b| mix_byte(d, *b))
 }
 
 // The digest of a number of 64 bits more.
@@ -123,75 +81,23 @@ pub fn mix_wide(h: u64, n: u64) -> u64 {
 }
 
 // The digest of these numbers more.
-pub fn digest8(h: u64, s: &[u8]) -> u64 {
-    let mut d = h;
-    let mut i = 0;
-    while i < s.len() {
-        d = mix(d, wide8(s[i]));
-        i += 1;
-    }
-    d
-}
-
-pub fn digest16(h: u64, s: &[u16]) -> u64 {
-    let mut d = h;
-    let mut i = 0;
-    while i < s.len() {
-        d = mix(d, wide16(s[i]));
-        i += 1;
-    }
-    d
-}
-
-pub fn digest(h: u64, s: &[u32]) -> u64 {
-    let mut d = h;
-    let mut i = 0;
-    while i < s.len() {
-        d = mix(d, s[i]);
-        i += 1;
-    }
-    d
+pub fn digest<T: Copy + Into<u32>>(h: u64, s: &[T]) -> u64 {
+    s.iter().fold(h, |d, x| mix(d, (*x).into()))
 }
 
 // Whether all numbers from here on are as before the call.
-pub fn kept16(s: &[u16], from: usize) -> bool {
-    let mut i = from;
-    while i < s.len() {
-        if s[i] != FILL16 {
-            return false;
-        }
-        i += 1;
-    }
-    true
-}
-
-pub fn kept(s: &[u32], from: usize) -> bool {
-    let mut i = from;
-    while i < s.len() {
-        if s[i] != FILL {
-            return false;
-        }
-        i += 1;
-    }
-    true
+pub fn kept<T: Fill>(s: &[T], from: usize) -> bool {
+    s.iter().skip(from).all(|x| *x == T::FILL)
 }
 
 fn nibble(b: u8) -> u64 {
-    if 57 < b {
-        return (b % 16) as u64 + 9;
-    }
-    (b % 16) as u64
+    let low = u64::from(b % 16);
+    if b'9' < b { low + 9 } else { low }
 }
 
 // The number in these hexadecimal digits.
 pub fn hex(s: &[u8]) -> u64 {
-    let mut v = 0u64;
-    let mut i = 0;
-    while i < s.len() {
-        v = (v << 4) | nibble(s[i]);
-        i += 1;
-    }
-    v
+    s.iter().fold(0, |v, b| (v << 4) | nibble(*b))
 }
 
 // Field i of a header: its fields have sixteen hexadecimal digits, and one byte behind each.
@@ -200,8 +106,7 @@ pub fn field(header: &[u8], i: usize) -> u64 {
         return 0;
     }
     let at = 17 * i;
-    let end = at + 16;
-    hex(&header[at..end])
+    hex(&header[at..at + 16])
 }
 
 // The same, of 32 bits.
@@ -211,49 +116,28 @@ pub fn number(header: &[u8], i: usize) -> u32 {
 
 // Whether the fields of a header from this one on are these numbers.
 pub fn tells(header: &[u8], from: usize, seen: &[u64]) -> bool {
-    let mut i = 0;
-    while i < seen.len() {
-        if field(header, std::num::wrapping_add_usize(from, i)) != seen[i] {
-            return false;
-        }
-        i += 1;
-    }
-    true
+    seen.iter()
+        .enumerate()
+        .all(|(i, n)| field(header, from.wrapping_add(i)) == *n)
 }
 
 // Fills a list with numbers of eight hexadecimal digits each, as far as they go.
 fn numbers(s: &[u8], list: &mut [u32]) {
-    let mut i = 0;
-    while i < list.len() {
-        if s.len() / 8 <= i {
-            return;
-        }
-        let at = 8 * i;
-        let end = at + 8;
-        list[i] = low_half(hex(&s[at..end]));
-        i += 1;
+    for (n, digits) in list.iter_mut().zip(s.chunks_exact(8)) {
+        *n = low_half(hex(digits));
     }
 }
 
 // The file of this name, open for reading; none where it cannot be opened.
 pub fn open<R: Files>(rt: &R, name: &[u8]) -> Option<R::File> {
-    let path = str::from_utf8(name).ok()?;
-    fs::open(rt, path).ok()
+    named_files::open(rt, name)
 }
 
 // Reads until the bytes are full, the file ends or a read fails; says how many came.
 pub fn read_full<F: Read>(file: &mut F, bytes: &mut [u8]) -> usize
     ensures { result ≤ length bytes.new }
 {
-    let mut done = 0;
-    while done < bytes.len() {
-        match file.read(&mut bytes[done..]) {
-            Ok(0) => return done,
-            Ok(more) => done += more,
-            Err(_) => return done,
-        }
-    }
-    done
+    named_files::read_full(file, bytes).unwrap_or_else(|came| came)
 }
 
 // Reads the file of this name to the front of the bytes, as far as they go; says how many came, none where it cannot be opened.
@@ -270,7 +154,7 @@ pub fn take<F: Read>(file: &mut F, buffer: &mut [u8], n: u64) -> usize {
     if buffer.len() < m {
         return 0;
     }
-    read_full(file, &mut buffer[0..m])
+    read_full(file, &mut buffer[..m])
 }
 
 // Reads n numbers of eight hexadecimal digits each to the front of a list, 2,048 at most; says how many.
@@ -278,8 +162,20 @@ pub fn take_numbers<F: Read>(file: &mut F, n: u64, list: &mut [u32]) -> usize {
     let mut digits = [0u8; 16384];
     let count = n % 2049;
     let d = take(file, &mut digits, 8 * count);
-    numbers(front8(&digits, d), list);
+    numbers(front(&digits, d), list);
     count as usize
+}
+
+// Tries the cases from 1 on, a thousand at most, until one says that there are no more.
+pub fn each_case<F: FnMut(u32) -> io::Result<bool>>(mut next: F) -> io::Result<()>
+    requires { F.IsAlwaysCallable next }
+{
+    for case in 1..=1000 {
+        if !next(case)? {
+            break;
+        }
+    }
+    Ok(())
 }
 
 // So many more at this place of the counts; all stay within what a column holds.
@@ -299,10 +195,8 @@ fn show_count(rt: &impl Print, n: u32) -> io::Result<()> {
 // Prints a line: a name, then each count in eight columns.
 pub fn show(rt: &impl Print, name: &[u8], counts: &[u32]) -> io::Result<()> {
     rt.write_all(name)?;
-    let mut i = 0;
-    while i < counts.len() {
-        show_count(rt, counts[i])?;
-        i += 1;
+    for n in counts {
+        show_count(rt, *n)?;
     }
     rt.write_all(b"\n")
 }

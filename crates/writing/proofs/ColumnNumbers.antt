@@ -10,9 +10,8 @@ use native.Mathlib.Nat.{pow-suc}
 use native.Mathlib.Omega.{arith}
 use lib.Dec.{leb, eqb}
 use lib.ListN.{length, replicate, replicate-append-replicate}
-use Rattle.fields.specs.Format.{glyph_of, on_digit, digits_from, on_field, field}
-use Rattle.fields.specs.declared.Glyph.{Glyph}
-use Rattle.fields.specs.declared.Glyph.TheVariants.{Blank, Digit, Other}
+use Rattle.fields.specs.Format.{Glyph, glyph_of, on_digit, digits_from, on_field, field}
+use Rattle.fields.specs.Format.Glyph.{Blank, Digit, Other}
 use Rattle.fields.proofs.LineParts.{digit_low}
 use Rattle.fields.proofs.Digits.{no_number_lem}
 use Rattle.columns.specs.Columns.{column}

@@ -4,7 +4,7 @@ use Rattle.opening.proofs.Opened.{opened_readable}
 use Rattle.test_reading.proofs.try_case.Goals as goal
 
 pub try_question-question-requires : goal.try_question-question-requires
-try_question-question-requires g c = let o = c.open_table-reply.ensures in (opened_readable _ _ (told _ _ _ (o.0, o.1) c.in-Accepted.is)).0
+try_question-question-requires g c = let o = c.open_table.ensures in (opened_readable _ _ (told _ _ _ (o.0, o.1) c.in_default-open_table.is)).0
 
 pub try_text-requires : goal.try_text-requires
-try_text-requires g c = let o = c.open_table-reply.ensures in (opened_readable _ _ (told _ _ _ (o.0, o.1) c.in-Accepted.is)).0
+try_text-requires g c = let o = c.open_table.ensures in (opened_readable _ _ (told _ _ _ (o.0, o.1) c.in_default-open_table.is)).0

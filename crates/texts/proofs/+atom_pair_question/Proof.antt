@@ -9,10 +9,11 @@ use lib.ListN.{length, take, get_or}
 use borrow.Author.Rules.{rules}
 use borrow.Fn.Kinds.{In}
 use borrow.Fn.PlainCycle.{Measures, is, falls, and}
+use Rattle.std.specs.Prelude.{◌≢◌}
 use Rattle.texts.specs.Steps.{step_of}
 use Rattle.texts.specs.Steps.Step.{read}
 use Rattle.texts.specs.Descent.{from, pair_from, equation_from, location_from, prefix_kind, middle_kind, Right}
-use Rattle.texts.proofs.StepCodes.{step-stopped, right-stopped, right-read, right-few}
+use Rattle.texts.proofs.StepCodes.{step-stopped, kind-some, kind-none, right-stopped, right-read, right-few}
 use Rattle.texts.proofs.Openings.{Opens, Breaks, take_short, bracket-here, location-here, register-here, not-here, until-here, exists_breaks, always_breaks, none_here, prefix_here}
 use Rattle.texts.proofs.Walks.{right-stop, right_prefix, right-same, right-left-stop, right_middle_stop, middle_in, right-right-stop, right_open_stop, right-pair}
 use Rattle.texts.proofs.atom.Reads as atom
@@ -153,9 +154,9 @@ atom_returns_3 t c =
     let o = register-here s a.at (sym c.byte_at-b.ensures ∙ c.if-b-eq114.true) in
     right-same s a.at (a.at + 1) a.rows a.t.now (from s a.at) (equation_from s (a.at + 1)) o.0 o.1 (step_of c.equation.result) c.equation.new.t c.equation.ensures
 
--- the kind of an operator of two bytes
-operator : (t : ℕ) (c : atom-lts.After-prefix-k (atom_claims t) (atom-at t) atom.Post) → let a = c.args in c.prefix-k.result ≡ prefix_kind (get_or (take a.n a.s.now) a.at 0) (get_or (take a.n a.s.now) (a.at + 1) 0)
-operator t c = c.prefix-k.ensures ∙ ap₂ prefix_kind c.byte_at-b.ensures c.byte_at-c.ensures
+-- the two bytes are no operator
+no_operator : (t : ℕ) (c : atom-lts.In_default (atom_claims t) (atom-at t) atom.Post) → let a = c.args in prefix_kind (get_or (take a.n a.s.now) a.at 0) (get_or (take a.n a.s.now) (a.at + 1) 0) ≡ 0
+no_operator t c = sym (ap₂ prefix_kind c.byte_at-b.ensures c.byte_at-c.ensures) ∙ kind-none _ c.in_default.ensures
 
 atom-add-pair : (t : ℕ) → atom-lts.Need-overflow_add-next-then-c-eq40 (atom_claims t) (atom-at t) atom.Post
 atom-add-pair t c = let w = c in omega (arith, w.requires.1, short t w.before.before.before.before.before.before.before.before.before.before)
@@ -178,16 +179,16 @@ atom_returns_5 t c =
     let w = c in
     let a = w.args in
     let s = take a.n a.s.now in
-    breaks t w.before.before.before.before.before.before.before.before.before (a.at + 1) (exists_breaks s a.at (sym c.byte_at-b.ensures ∙ c.if-b-eq69.true) (sym (operator t c.before.before.before) ∙ c.if-k-eq0.true) (λ h. c.if-c-eq40.false (c.byte_at-c.ensures ∙ h)))
+    breaks t w.before.before.before.before.before.before.before.before.before (a.at + 1) (exists_breaks s a.at (sym c.byte_at-b.ensures ∙ c.if-b-eq69.true) (no_operator t c.before.before) (λ h. c.if-c-eq40.false (c.byte_at-c.ensures ∙ h)))
 
 atom_returns_6 : (t : ℕ) → atom-lts.Need-returns-then-b-eq65 (atom_claims t) (atom-at t) atom.Post
 atom_returns_6 t c =
     let w = c in
     let a = w.args in
     let s = take a.n a.s.now in
-    breaks t w.before.before.before.before.before.before.before.before.before (a.at + 1) (always_breaks s a.at (sym c.byte_at-b.ensures ∙ c.if-b-eq65.true) (sym (operator t c.before.before.before) ∙ c.if-k-eq0.true))
+    breaks t w.before.before.before.before.before.before.before.before.before (a.at + 1) (always_breaks s a.at (sym c.byte_at-b.ensures ∙ c.if-b-eq65.true) (no_operator t c.before.before))
 
-atom_returns_7 : (t : ℕ) → atom-lts.Need-returns-then-k-eq0 (atom_claims t) (atom-at t) atom.Post
+atom_returns_7 : (t : ℕ) → atom-lts.Need-returns-in_default (atom_claims t) (atom-at t) atom.Post
 atom_returns_7 t c =
     let w = c in
     let a = w.args in
@@ -196,8 +197,11 @@ atom_returns_7 t c =
     breaks t w.before.before.before.before.before.before.before.before.before a.at (none_here s a.at w.requires.1.0 w.requires.1.3 (λ h. c.if-b-eq33.false (b ∙ h)) (λ h. c.if-b-eq76.false (b ∙ h)) (λ h. c.if-b-eq114.false (b ∙ h)) (λ h. c.if-b-eq69.false (b ∙ h)) (λ h. c.if-b-eq65.false (b ∙ h)))
 
 -- the operator of two bytes
-opens_two : (t : ℕ) (c : atom-lts.Else-k-eq0 (atom_claims t) (atom-at t) atom.Post) → let a = c.args in Opens (take a.n a.s.now) a.at c.prefix-k.result (a.at + 1 + 1)
-opens_two t c = let a = c.args in prefix_here (take a.n a.s.now) a.at _ (operator t c.before) c.if-k-eq0.false
+opens_two : (t : ℕ) (c : atom-lts.In-Some (atom_claims t) (atom-at t) atom.Post) → let a = c.args in Opens (take a.n a.s.now) a.at c.in-Some.k (a.at + 1 + 1)
+opens_two t c =
+    let a = c.args in
+    let (e, z) = kind-some _ _ c.in-Some.ensures in
+    prefix_here (take a.n a.s.now) a.at _ (e ∙ ap₂ prefix_kind c.byte_at-b.ensures c.byte_at-c.ensures) z
 
 atom-add-question : (t : ℕ) → atom-lts.Need-overflow_add-next-2 (atom_claims t) (atom-at t) atom.Post
 atom-add-question t c = let w = c in omega (arith, w.requires.1, short t w.before.before.before.before.before.before.before.before)
@@ -231,8 +235,8 @@ left : (t : ℕ) (c : pair-lts.Else-p-lt1024 (pair_claims t) (pair-at t) pair.Po
 left t c = let a = c.args in let s = take a.n a.s.now in right-read (from s a.at) s a.at a.rows a.t.now _ _ c.question-p.ensures c.if-p-lt1024.false
 
 -- what follows it
-kind : (t : ℕ) (c : pair-lts.After-middle-k (pair_claims t) (pair-at t) pair.Post) → let a = c.args in c.middle-k.result ≡ middle_kind a.until (get_or (take a.n a.s.now) (c.question-p.result % 1024) 0)
-kind t c = c.middle-k.ensures ∙ ap (middle_kind c.args.until) c.byte_at.ensures
+kind : (t : ℕ) (c : pair-lts.In-Some (pair_claims t) (pair-at t) pair.Post) → let a = c.args in (c.in-Some.k ≡ middle_kind a.until (get_or (take a.n a.s.now) (c.question-p.result % 1024) 0)) × (c.in-Some.k ≢ 0)
+kind t c = let (e, z) = kind-some _ _ c.in-Some.ensures in (e ∙ ap (middle_kind c.args.until) c.byte_at.ensures, z)
 
 -- the right question
 right : (t : ℕ) (c : pair-lts.Else-q-lt1024 (pair_claims t) (pair-at t) pair.Post) → let a = c.args in let p = c.question-p.result in let q = c.question-q.result in
@@ -249,11 +253,11 @@ pair_returns t c =
     let s = take a.n a.s.now in
     right-left-stop s a.at a.rows a.t.now a.until _ c.question-p.new.t (right-stopped (from s a.at) s a.at a.rows a.t.now _ _ c.question-p.ensures c.if-p-lt1024.true) _ c.question-p.new.t (step-stopped _ c.if-p-lt1024.true)
 
-pair_returns_2 : (t : ℕ) → pair-lts.Need-returns-then-k-eq0 (pair_claims t) (pair-at t) pair.Post
+pair_returns_2 : (t : ℕ) → pair-lts.Need-returns-in_default (pair_claims t) (pair-at t) pair.Post
 pair_returns_2 t c =
     let a = c.args in
     let s = take a.n a.s.now in
-    right_middle_stop s a.at a.rows a.t.now a.until _ _ c.question-p.new.t (left t c.before.before.before) (sym (kind t c.before) ∙ c.if-k-eq0.true) _ c.question-p.new.t (step-stopped _ (omega arith))
+    right_middle_stop s a.at a.rows a.t.now a.until _ _ c.question-p.new.t (left t c.before.before.before) (sym (ap (middle_kind c.args.until) c.byte_at.ensures) ∙ kind-none _ c.in_default.ensures) _ c.question-p.new.t (step-stopped _ (omega arith))
 
 pair-question_requires_2 : (t : ℕ) → pair-lts.Need-question-q-requires (pair_claims t) (pair-at t) pair.Post
 pair-question_requires_2 t c κs =
@@ -262,7 +266,7 @@ pair-question_requires_2 t c κs =
     let s = take a.n a.s.now in
     let p = c.question-p.result in
     let r = left t c.before.before.before.before in
-    let l : p % 1024 < length s = middle_in s a.at a.rows a.t.now a.until (p % 1024) (p / 1024) c.question-p.new.t r _ (kind t c.before.before) c.if-k-eq0.false in
+    let l : p % 1024 < length s = middle_in s a.at a.rows a.t.now a.until (p % 1024) (p / 1024) c.question-p.new.t r _ (kind t c.before).0 (kind t c.before).1 in
     (omega (arith, w.requires, r.4), (omega arith, w.requires.1.1, omega (arith, w.requires.1, r.6)))
 
 pair_returns_3 : (t : ℕ) → pair-lts.Need-returns-then-q-lt1024 (pair_claims t) (pair-at t) pair.Post
@@ -271,7 +275,7 @@ pair_returns_3 t c =
     let s = take a.n a.s.now in
     let p = c.question-p.result in
     let v = c.question-p.new.t in
-    right-right-stop s a.at a.rows a.t.now a.until (p % 1024) (p / 1024) v (left t c.before.before.before.before.before.before) _ (kind t c.before.before.before.before) c.if-k-eq0.false
+    right-right-stop s a.at a.rows a.t.now a.until (p % 1024) (p / 1024) v (left t c.before.before.before.before.before.before) _ (kind t c.before.before.before).0 (kind t c.before.before.before).1
     _ c.question-q.new.t (right-stopped (from s (p % 1024 + 1)) s (p % 1024 + 1) (p / 1024) v _ _ c.question-q.ensures c.if-q-lt1024.true) _ c.question-q.new.t (step-stopped _ c.if-q-lt1024.true)
 
 pair-closed_requires : (t : ℕ) → pair-lts.Need-closed-requires (pair_claims t) (pair-at t) pair.Post
@@ -286,7 +290,7 @@ pair_returns_5 t c =
     let a = c.args in
     let s = take a.n a.s.now in
     let p = c.question-p.result in
-    right-pair s a.at a.rows a.t.now a.until (p % 1024) (p / 1024) c.question-p.new.t (left t c.before.before.before.before.before.before.before.before.before.before) _ (kind t c.before.before.before.before.before.before.before.before) c.if-k-eq0.false
+    right-pair s a.at a.rows a.t.now a.until (p % 1024) (p / 1024) c.question-p.new.t (left t c.before.before.before.before.before.before.before.before.before.before) _ (kind t c.before.before.before.before.before.before.before).0 (kind t c.before.before.before.before.before.before.before).1
     _ _ c.question-q.new.t (right t c.before.before.before.before) (omega (arith, c.byte_at-2.ensures)) _ _ c.closed.ensures.1 c.closed.ensures.0
 
 -- A question
@@ -330,6 +334,8 @@ pub +atom_pair_question_spec : {M : Type 1} → statement M
     (atom_returns_3 t)
     (λ c κs. search rules)
     (λ c κs. search rules)
+    (λ c. search rules)
+    (λ c. search rules)
     (atom-add-pair t)
     (atom-pair_requires t)
     (atom_returns_4 t)
@@ -345,6 +351,8 @@ pub +atom_pair_question_spec : {M : Type 1} → statement M
     (pair_returns t)
     (λ c κs. search rules)
     (λ c κs. search rules)
+    (λ c. search rules)
+    (λ c. search rules)
     (pair_returns_2 t)
     (λ c. search rules)
     (pair-question_requires_2 t)
@@ -354,7 +362,7 @@ pub +atom_pair_question_spec : {M : Type 1} → statement M
     let a = c.args in
     let s = take a.n a.s.now in
     let p = c.question-p.result in
-    right_open_stop s a.at a.rows a.t.now a.until (p % 1024) (p / 1024) c.question-p.new.t (left t c.before.before.before.before.before.before.before.before) _ (kind t c.before.before.before.before.before.before) c.if-k-eq0.false
+    right_open_stop s a.at a.rows a.t.now a.until (p % 1024) (p / 1024) c.question-p.new.t (left t c.before.before.before.before.before.before.before.before) _ (kind t c.before.before.before.before.before).0 (kind t c.before.before.before.before.before).1
     _ _ c.question-q.new.t (right t c.before.before) (λ h. omega (arith, c.byte_at-2.ensures, h)) _ c.question-q.new.t (step-stopped _ (omega arith)))
     (λ c. search rules)
     (pair-closed_requires t)

@@ -3,10 +3,11 @@ use Prim.Native.Nat.{◌+◌, ◌/◌, ◌%◌, ◌<◌, ◌≤◌}
 use mathlib.Core.Path.{◌≡◌, sym, ap, ◌∙◌}
 use native.Mathlib.Omega.{arith}
 use lib.ListN.{length, take, get_or}
+use Rattle.std.specs.Prelude.{◌≢◌}
 use Rattle.texts.specs.Steps.Step.{read}
 use Rattle.texts.specs.Descent.{equation_from, side_kind, RightNumber}
 use Rattle.texts.proofs.Openings.{take_short, in_list}
-use Rattle.texts.proofs.StepCodes.{step-stopped, number-stopped, number_read}
+use Rattle.texts.proofs.StepCodes.{step-stopped, kind-some, kind-none, number-stopped, number_read}
 use Rattle.texts.proofs.Walks.{side_in, equation_stops_1, equation_stops_2, equation_stops_3, right-stop, right-equation, right-equation_broken}
 use borrow.Author.Rules.{rules}
 use Rattle.texts.proofs.equation.Statement.{statement}
@@ -24,11 +25,11 @@ equals : (c : tie.Else-byte_at-ne61) → let a = c.args in get_or (take a.n a.s.
 equals c = sym c.byte_at.ensures ∙ c.if-byte_at-ne61.false
 
 -- then r or c
-kind : (c : tie.After-side-k) → let a = c.args in c.side-k.result ≡ side_kind (get_or (take a.n a.s.now) (c.number-i.result % 1024 + 1) 0)
-kind c = c.side-k.ensures ∙ ap side_kind c.byte_at-2.ensures
+kind : (c : tie.In-Some) → let a = c.args in (c.in-Some.k ≡ side_kind (get_or (take a.n a.s.now) (c.number-i.result % 1024 + 1) 0)) × (c.in-Some.k ≢ 0)
+kind c = let (e, z) = kind-some _ _ c.in-Some.ensures in (e ∙ ap side_kind c.byte_at-2.ensures, z)
 
-inside : (c : tie.Else-k-eq0) → let a = c.args in c.number-i.result % 1024 + 1 < length (take a.n a.s.now)
-inside c = let a = c.args in side_in (take a.n a.s.now) (c.number-i.result % 1024 + 1) _ (kind c.before) c.if-k-eq0.false
+inside : (c : tie.In-Some) → let a = c.args in c.number-i.result % 1024 + 1 < length (take a.n a.s.now)
+inside c = let a = c.args in let (e, z) = kind c in side_in (take a.n a.s.now) (c.number-i.result % 1024 + 1) _ e z
 
 returns : tie.Need-returns-then-i-lt1024
 returns c =
@@ -44,14 +45,14 @@ returns-2 c =
     let (f, h, l) = first c.before.before in
     right-stop s a.at a.rows a.t.now (equation_from s a.at) _ _ a.t.now (step-stopped _ (omega arith)) (equation_stops_2 s a.at _ _ f l (λ e. c.if-byte_at-ne61.true (c.byte_at.ensures ∙ e))) l
 
-returns-3 : tie.Need-returns-then-k-eq0
+returns-3 : tie.Need-returns-in_default
 returns-3 c =
     let a = c.args in
     let s = take a.n a.s.now in
     let e = equals c.before.before.before in
     let l : c.number-i.result % 1024 < length s = in_list s (c.number-i.result % 1024) 60 e in
     right-stop s a.at a.rows a.t.now (equation_from s a.at) _ _ a.t.now (step-stopped _ (omega (arith, short c.before.before.before.before.before.before.before)))
-    (equation_stops_3 s a.at _ _ (first c.before.before.before.before.before).0 e (omega arith) (sym (kind c.before) ∙ c.if-k-eq0.true)) (omega arith)
+    (equation_stops_3 s a.at _ _ (first c.before.before.before.before.before).0 e (omega arith) (sym (ap side_kind c.byte_at-2.ensures) ∙ kind-none _ c.in_default.ensures)) (omega arith)
 
 number-requires-2 : tie.Need-number-j-requires
 number-requires-2 c κs = omega (arith, c.requires, inside c)
@@ -60,7 +61,7 @@ returns-4 : tie.Need-returns-then-j-lt1024
 returns-4 c =
     let a = c.args in
     let s = take a.n a.s.now in
-    right-equation_broken s a.at a.rows a.t.now _ _ _ _ (first c.before.before.before.before.before.before.before) (equals c.before.before.before.before.before) (kind c.before.before.before) c.if-k-eq0.false (number-stopped s _ _ c.number-j.ensures c.if-j-lt1024.true) _ a.t.now (step-stopped _ c.if-j-lt1024.true)
+    right-equation_broken s a.at a.rows a.t.now _ _ _ _ (first c.before.before.before.before.before.before.before) (equals c.before.before.before.before.before) (kind c.before.before).0 (kind c.before.before).1 (number-stopped s _ _ c.number-j.ensures c.if-j-lt1024.true) _ a.t.now (step-stopped _ c.if-j-lt1024.true)
 
 closed-requires : tie.Need-closed-requires
 closed-requires c κs = omega (arith, c.requires, short c.before.before.before.before.before.before.before.before.before.before)
@@ -69,7 +70,7 @@ returns-5 : tie.Need-returns
 returns-5 c =
     let a = c.args in
     let s = take a.n a.s.now in
-    right-equation s a.at a.rows a.t.now _ _ _ _ _ (first c.before.before.before.before.before.before.before.before.before) (equals c.before.before.before.before.before.before.before) (kind c.before.before.before.before.before) c.if-k-eq0.false (number_read s _ _ c.number-j.ensures c.if-j-lt1024.false)
+    right-equation s a.at a.rows a.t.now _ _ _ _ _ (first c.before.before.before.before.before.before.before.before.before) (equals c.before.before.before.before.before.before.before) (kind c.before.before.before.before).0 (kind c.before.before.before.before).1 (number_read s _ _ c.number-j.ensures c.if-j-lt1024.false)
     _ _ c.closed.ensures.1 c.closed.ensures.0
 
 pub equation_spec : {M : Type 1} → statement M
@@ -83,6 +84,8 @@ equation_spec =
     (λ c. search rules)
     (λ c κs. search rules)
     (λ c κs. search rules)
+    (λ c. search rules)
+    (λ c. search rules)
     returns-3
     (λ c. search rules)
     number-requires-2

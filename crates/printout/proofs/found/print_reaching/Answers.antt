@@ -1,5 +1,5 @@
 -- Its memory is long enough.
-use Rattle.std.proofs.Common.{◌≡◌, ◌≤◌, ℕ, sym, arith, rules, length, replicate}
+use Rattle.std.proofs.Common.{◌≡◌, ◌≤◌, ℕ, sym, arith, length, replicate}
 use Rattle.std.proofs.lemmas.List.{length-replicate}
 use Rattle.printout.proofs.found.print_reaching.Goals as goal
 

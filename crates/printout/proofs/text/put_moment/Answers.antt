@@ -20,14 +20,14 @@ module _ (slots : List ℕ) (n : ℕ) (few : n ≡ min (get_or slots 0 0) 11) wh
 pub put_line-requires : goal.put_line-requires
 put_line-requires c =
     let a = c.args in
-    let n = c.at_most_eleven-end in
+    let n = c.min in
     omega (arith, c.requires.0, shown-few a.slots.now n.result n.ensures, ap (λ x. length (file_bytes Run (x ∷ []))) (lent-shown a.slots.now n.result n.ensures))
 
 pub returns : goal.returns
 returns c =
     let a = c.args in
     let p = c.put_line in
-    let n = c.at_most_eleven-end in
+    let n = c.min in
     let q : Put (file_bytes Run (shown a.slots.now ∷ [])) a.at p.result a.text.now p.new.text =
     subst (λ x. Put (file_bytes Run (x ∷ [])) a.at p.result a.text.now p.new.text) (lent-shown a.slots.now n.result n.ensures) p.ensures.0 in
     (omega (arith, q.ends, shown-few a.slots.now n.result n.ensures), q)

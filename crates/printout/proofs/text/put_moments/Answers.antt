@@ -5,14 +5,13 @@ use Rattle.printout.proofs.MomentSlots.{moments-none, moments_more}
 use Rattle.printout.proofs.text.put_moments.Goals as goal
 
 pub loop-k-init : goal.loop-k-init
-loop-k-init c = let a = c.args in (omega arith, omega arith, moments-none Run a.slots.now a.at a.text.now)
+loop-k-init c = let a = c.args in (omega arith, moments-none Run a.slots.now a.at a.text.now)
 
 pub loop-k-preserved : goal.loop-k-preserved
 loop-k-preserved c =
     let a = c.args in
     let l = c.loop-k in
     let p = c.put_moment-end in (
-      omega arith,
-      omega (arith, p.ensures.0, l.invariant.1),
-      moments_more Run l.k a.slots.now a.at l.end p.result a.text.now l.text p.new.text l.invariant.2 p.ensures.1,
+      omega (arith, p.ensures.0, l.invariant.0),
+      moments_more Run l.k a.slots.now a.at l.end p.result a.text.now l.text p.new.text l.invariant.1 p.ensures.1,
     )

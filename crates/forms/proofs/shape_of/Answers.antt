@@ -1,0 +1,64 @@
+-- `forms::shape_of` meets its contract. Assumes nothing.
+use Rattle.std.proofs.Common.{refl, sym, rules}
+use Rattle.forms.specs.Shapes.{shape_of}
+use Rattle.forms.proofs.KindTable.{no_kind_lem}
+use Rattle.forms.proofs.shape_of.Goals as goal
+
+pub returns-in-1 : goal.returns-in-1
+unfolding shape_of
+returns-in-1 c = rw c.in-1.is refl
+
+pub returns-in-2 : goal.returns-in-2
+unfolding shape_of
+returns-in-2 c = rw c.in-2.is refl
+
+pub returns-in-3 : goal.returns-in-3
+unfolding shape_of
+returns-in-3 c = rw c.in-3.is refl
+
+pub returns-in-4 : goal.returns-in-4
+unfolding shape_of
+returns-in-4 c = rw c.in-4.is refl
+
+pub returns-in-5 : goal.returns-in-5
+unfolding shape_of
+returns-in-5 c = rw c.in-5.is refl
+
+pub returns-in-6 : goal.returns-in-6
+unfolding shape_of
+returns-in-6 c = rw c.in-6.is refl
+
+pub returns-in-7 : goal.returns-in-7
+unfolding shape_of
+returns-in-7 c = rw c.in-7.is refl
+
+pub returns-in-8 : goal.returns-in-8
+unfolding shape_of
+returns-in-8 c = rw c.in-8.is refl
+
+pub returns-in-9 : goal.returns-in-9
+unfolding shape_of
+returns-in-9 c = rw c.in-9.is refl
+
+pub returns-in-10 : goal.returns-in-10
+unfolding shape_of
+returns-in-10 c = rw c.in-10.is refl
+
+pub returns-in-11 : goal.returns-in-11
+unfolding shape_of
+returns-in-11 c = rw c.in-11.is refl
+
+pub returns-in-12 : goal.returns-in-12
+unfolding shape_of
+returns-in-12 c = rw c.in-12.is refl
+
+pub returns-in-13 : goal.returns-in-13
+unfolding shape_of
+returns-in-13 c = rw c.in-13.is refl
+
+pub returns-in-14 : goal.returns-in-14
+unfolding shape_of
+returns-in-14 c = rw c.in-14.is refl
+
+pub returns-in_default : goal.returns-in_default
+returns-in_default c = sym (no_kind_lem c.args.kind (search rules))
