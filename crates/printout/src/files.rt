@@ -7,7 +7,7 @@ use std::rt::Files;
 // What a program did: how many bytes of the table and of the other file it read, how many of its text it handed to the output, and whether all of
 // them could be written.
 // Stays: what was read is told, and promised, also where not all could be written.
-#[derive(Drop)]
+#[derive(Clone, Copy)]
 pub struct Printed {
     pub table: usize,
     pub other: usize,

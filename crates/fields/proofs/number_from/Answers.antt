@@ -3,7 +3,7 @@ use Rattle.std.proofs.Common.{rules, ◌≡◌, ◌-◌, arith, sym, ◌∙◌, 
 use Rattle.std.specs.Char.{IsAsciiDigit, IsNotAsciiDigit}
 use Rattle.fields.specs.Format.{digits_from}
 use Rattle.fields.specs.LineRead.{value_of}
-use Rattle.fields.proofs.FieldsTaken.{room-first, room_more, room-value, digits_stop, digits-zero, digits-next}
+use Rattle.fields.proofs.FieldsTaken.{room-first, room_more, room-value, digits_stop, digits-next}
 use Rattle.fields.proofs.number_from.Goals as goal
 
 pub loop-b-init : goal.loop-b-init
@@ -15,11 +15,6 @@ pub returns-then-not-is_ascii_digit : goal.returns-then-not-is_ascii_digit
 returns-then-not-is_ascii_digit c =
     let other : IsNotAsciiDigit (get_or c.args.digits.now c.loop-b.b-index 0) = search rules in
     sym (ap value_of (sym c.loop-b.invariant.rest ∙ digits_stop c.args.digits.now c.loop-b.b-index c.loop-b-test.true c.loop-b.v other))
-
-pub returns-then-v-eq0 : goal.returns-then-v-eq0
-returns-then-v-eq0 c =
-    let digit : IsAsciiDigit (get_or c.args.digits.now c.loop-b.b-index 0) = search rules in
-    sym (ap value_of (sym c.loop-b.invariant.rest ∙ digits-zero c.args.digits.now c.loop-b.b-index c.loop-b-test.true c.loop-b.v digit (omega arith)))
 
 pub overflow_mul-v : goal.overflow_mul-v
 overflow_mul-v c = omega (arith, room-value c.loop-b.v _ c.loop-b.invariant.room)

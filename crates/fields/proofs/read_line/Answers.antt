@@ -20,7 +20,7 @@ returns-in_err-columns c =
     let w = c.width in
     let short : length l.rest.now < w.result = search rules in
     let e : c.from_residual.result ≡ None = search rules in
-    rw e (read_none _ l.row (taken-short c.args.sheet c.args.line.now l.row l.rest.now l.count l.invariant.taken more c.if-count-ge6.false w.result w.ensures short))
+    rw e (read_none _ l.row (taken-short c.args.sheet c.args.line.now l.row l.rest.now l.count l.invariant.taken more (omega arith) w.result w.ensures short))
 
 pub field-requires : goal.field-requires
 field-requires c =
@@ -39,7 +39,7 @@ returns-in_err-row c =
     let e : c.from_residual-in_err-row.result ≡ None = search rules in
     rw e
     (read_none _ l.row
-    (taken_missing c.args.sheet c.args.line.now l.row l.rest.now l.count l.invariant.taken more c.if-count-ge6.false w.result w.ensures within missing))
+    (taken_missing c.args.sheet c.args.line.now l.row l.rest.now l.count l.invariant.taken more (omega arith) w.result w.ensures within missing))
 
 pub loop-rest-preserved : goal.loop-rest-preserved
 loop-rest-preserved c =
@@ -52,7 +52,7 @@ loop-rest-preserved c =
     let back : c.in_ok-columns.after.now ≡ drop w.result l.rest.now = search rules in
     let number = value-some _ x (sym c.in_ok-row.was ∙ c.field.ensures ∙ ap (λ cs. value_of (field cs)) front) in
     record {
-      taken = rw back (taken_next c.args.sheet c.args.line.now l.row l.rest.now l.count l.invariant.taken more c.if-count-ge6.false w.result w.ensures within x number);
+      taken = rw back (taken_next c.args.sheet c.args.line.now l.row l.rest.now l.count l.invariant.taken more (omega arith) w.result w.ensures within x number);
       six = simp length-set l.invariant.six;
     }
 
